@@ -1,0 +1,3 @@
+pub mod Operand
+pub mod Decimal
+pub mod ReadBack

@@ -1,0 +1,123 @@
+// Operands: a run of digits read as a number of any size, and a number written in decimal.
+ghost use mathlib.Core.Path.{_≡_};
+ghost use mathlib.Core.List.{[], _∷_};
+ghost use mathlib.Core.Bool.{cond};
+ghost use Prim.Native.Nat.{_+_, _*_, _<_, _≤_, min};
+ghost use lib.ListN.{length, drop};
+ghost use lib.Dec.{ltb};
+ghost use Rattle.digits.specs.Operand.{digitRun, widest, operandAt};
+ghost use Rattle.digits.specs.Decimal.{decimal, WrittenIs};
+ghost use Rattle.digits.specs.ReadBack.{DigitClaims};
+
+pub enum Operand {
+    // No digit stands there.
+    Missing,
+    // The value, and the place past the run.
+    Number(u32, usize),
+    // The value is more than 32 bits hold; the place past the run.
+    Above(usize),
+}
+
+pub enum Written {
+    // The place past what was written.
+    Past(usize),
+    // It does not fit; nothing was written.
+    NoRoom,
+}
+
+// The greatest number that 32 bits hold, and the least that they do not.
+const WIDEST: u64 = 4294967295;
+
+const TOO_WIDE: u64 = WIDEST + 1;
+
+// The operand at a place of s: the longest run of digits.
+pub fn read_operand(s: &[u8], at: usize) -> Operand
+    ensures { λ r. ⌜ r ≡ operandAt (now (s .entry)) at ⌝ }
+{
+    let mut i = at;
+    let mut v: u64 = 0;
+    let mut d = digit_at(s, i);
+    while d < 10 {
+        v = push(v, d);
+        i += 1;
+        d = digit_at(s, i);
+    }
+    if i == at {
+        return Operand::Missing;
+    }
+    if v <= WIDEST {
+        Operand::Number(v as u32, i)
+    } else {
+        Operand::Above(i)
+    }
+}
+
+// Writes n in decimal without leading zeros from a place of the buffer.
+pub fn write_number(buffer: &mut [u8], at: usize, n: u32) -> Written
+    ensures { λ r. ⌜ WrittenIs (now (buffer .entry)) at (decimal n) r (now (buffer .exit)) ⌝ }
+{
+    let mut digits = [0u8; 10];
+    let start = make_digits(n, &mut digits);
+    if parts::put_at(buffer, at, &digits[start..]) {
+        return Written::Past(at + (10 - start));
+    }
+    Written::NoRoom
+}
+
+// Writes one byte at a place of the buffer.
+pub fn write_byte(buffer: &mut [u8], at: usize, b: u8) -> Written
+    ensures { λ r. ⌜ WrittenIs (now (buffer .entry)) at (b ∷ []) r (now (buffer .exit)) ⌝ }
+{
+    if buffer.len() <= at {
+        return Written::NoRoom;
+    }
+    buffer[at] = b;
+    Written::Past(at + 1)
+}
+
+// The digit at a place of s, or 10 where no digit stands.
+fn digit_at(s: &[u8], at: usize) -> u32
+    ensures { λ d. ⌜ digitRun (drop at (now (s .entry))) ≡ cond (ltb d 10) (d ∷ digitRun (drop (at + 1) (now (s .entry)))) [] ⌝ }
+{
+    if s.len() <= at {
+        return 10;
+    }
+    let b = s[at];
+    if b < b'0' {
+        return 10;
+    }
+    if b'9' < b {
+        return 10;
+    }
+    (b - b'0') as u32
+}
+
+// A number with one digit more behind it; where 32 bits do not hold it, the least that they do not.
+fn push(v: u64, d: u32) -> u64
+    requires { ⌜ (v ≤ widest + 1) × (d < 10) ⌝ }
+    ensures { λ w. ⌜ w ≡ min (v * 10 + d) (widest + 1) ⌝ }
+{
+    let w = v * 10 + (d as u64);
+    if w <= TOO_WIDE { w } else { TOO_WIDE }
+}
+
+// Makes the digits of n at the end of ten places; the place where they begin.
+fn make_digits(n: u32, digits: &mut [u8]) -> usize
+    requires { ⌜ length (now digits) ≡ 10 ⌝ }
+    ensures { λ r. ⌜ (r < 10) × (drop r (now (digits .exit)) ≡ decimal n) ⌝ }
+{
+    let mut rest = n;
+    let mut i = 9;
+    while 10 <= rest {
+        digits[i] = b'0' + (rest % 10) as u8;
+        rest = rest / 10;
+        i -= 1;
+    }
+    digits[i] = b'0' + rest as u8;
+    i
+}
+
+// What is claimed of operands and decimals together.
+pub fn digit_claims()
+    ensures { λ _. ⌜ DigitClaims ⌝ }
+{}

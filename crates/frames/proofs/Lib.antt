@@ -1,0 +1,5 @@
+pub mod Steps
+pub mod Addresses
+pub mod Stream
+pub mod Foreign
+pub mod Bodies

@@ -1,0 +1,51 @@
+-- `parts::wipe` meets its contract. The first i bytes are 0, the others as they were, and so is the length.
+-- Assumes nothing.
+use mathlib.Core.Path.{_≡_, refl, ap, _∙_}
+use mathlib.Core.List.{List, _++_, append-nil}
+use Prim.Native.Nat.{ℕ, _-_, _≤_, zero-le}
+use native.Mathlib.Nat.{le-antisymm}
+use native.Mathlib.Omega.{arith}
+use lib.ListN.{length, set, drop, replicate, length-set}
+use lib.Seq.{drop-length}
+use borrow.Author.Fill.{fill-more}
+use Rattle.parts.proofs.wipe.Statement.{statement}
+use Rattle.parts.proofs.wipe.Tie as tie
+
+abbrev Inv-loop : tie.InvT-loop
+Inv-loop s₀ i₀ i-end s i = (i ≤ i-end) × (s ≡ replicate i 0 ++ drop i s₀) × (length s ≡ length s₀)
+
+abbrev μ-loop : tie.MeasureT-loop
+μ-loop s₀ i₀ i-end s i = i-end - i
+
+loop-holds : tie.Need-loop-holds Inv-loop μ-loop
+loop-holds c = (zero-le, refl, refl)
+
+slice-write-s : tie.Need-slice-write-s Inv-loop μ-loop
+slice-write-s c = omega arith
+
+add-i : tie.Need-add-i Inv-loop μ-loop
+add-i c = omega arith
+
+loop-less : tie.Need-loop-less Inv-loop μ-loop
+loop-less c = omega arith
+
+loop-again : tie.Need-loop-again Inv-loop μ-loop
+loop-again c =
+    let at-loop = c .before in
+    let i = at-loop .loop .i in (
+      omega arith,
+      ap (λ (l : List ℕ). set l i 0) (at-loop .loop .inv .1) ∙ fill-more i 0 (at-loop .before .args .s .now) (c .loop-test .taken),
+      length-set (at-loop .loop .s) i 0 ∙ at-loop .loop .inv .2,
+    )
+
+same-length : tie.Need-same-length Inv-loop μ-loop
+same-length c = c .before .loop .inv .2
+
+returns : tie.Need-returns Inv-loop μ-loop
+returns c =
+    let at-loop = c .before in
+    let s = at-loop .before .args .s .now in
+    at-loop .loop .inv .1 ∙ rw (le-antisymm (at-loop .loop .inv .0) (c .loop-test .left), drop-length s, append-nil {A = ℕ} (replicate (length s) 0))
+
+pub wipe-spec : {M : Type 1} → statement M
+wipe-spec = tie.close (tie.spec Inv-loop μ-loop loop-holds slice-write-s add-i loop-less loop-again same-length returns)

@@ -1,0 +1,4 @@
+pub mod Ranges
+pub mod Peak
+pub mod Ramp
+pub mod Claims
