@@ -142,6 +142,6 @@ fn greatest_under(v: u64, room: u64) -> u64
 }
 
 // What readers are to believe of the figures, whatever V, L and N are.
-fn ramp_claims()
+pub fn ramp_claims()
     ensures { λ _. ⌜ RampClaims ⌝ }
 {}

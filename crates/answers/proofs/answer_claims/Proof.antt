@@ -1,0 +1,32 @@
+-- `answers::answer_claims`: every claim is a law of `ReadBack` or `Writing`, and the two packets of K1 and K2 compute.
+-- Assumes nothing.
+use mathlib.Core.Path.{refl}
+use Rattle.digits.specs.Decimal.{digitsIn, digitsOf, ascii, decimal}
+use Rattle.answers.specs.Packet.{packet, statusOf}
+use Rattle.answers.proofs.Writing.{packet-once}
+use Rattle.answers.proofs.ReadBack.{which, reads-back, nothing-else, refused-zeros, status-bits, status-only, status-apart, packet-apart, number-there, number-good, fits}
+use Rattle.answers.proofs.answer_claims.Statement.{statement}
+use Rattle.answers.proofs.answer_claims.Tie as tie
+
+returns : tie.Need-returns
+unfolding packet statusOf decimal ascii digitsOf digitsIn
+returns c = record {
+  which = which;
+  reads-back = reads-back;
+  nothing-else = nothing-else;
+  refused-zeros = refused-zeros;
+  status-bits = status-bits;
+  status-only = status-only;
+  status-apart = status-apart;
+  packet-apart = packet-apart;
+  number-there = number-there;
+  number-good = number-good;
+  longest = refl;
+  fits = fits;
+  one-answer = packet-once;
+  k1-packet = refl;
+  k2-packet = refl;
+}
+
+pub answer-claims-spec : {M : Type 1} → statement M
+answer-claims-spec = tie.close (tie.spec returns)

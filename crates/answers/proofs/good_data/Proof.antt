@@ -1,0 +1,65 @@
+-- `answers::good_data` meets its contract. The invariant: the bytes passed are of 20 to 7E hex, so the rest tells.
+-- Assumes nothing.
+use Prim.Native.Nat.{_-_, _≤_}
+use mathlib.Core.Path.{_≡_, refl}
+use native.Mathlib.Omega.{arith}
+use lib.ListN.{length, drop}
+use Rattle.answers.specs.Reading.{allPrintable}
+use Rattle.answers.proofs.Framing.{data-long, data-more, data-below, data-above, data-good}
+use Rattle.answers.proofs.good_data.Statement.{statement}
+use Rattle.answers.proofs.good_data.Tie as tie
+
+abbrev Inv-loop : tie.InvT-loop
+Inv-loop bytes i₀ i = (i ≤ length bytes) × (allPrintable bytes ≡ allPrintable (drop i bytes))
+
+abbrev μ-loop : tie.MeasureT-loop
+μ-loop bytes i₀ i = length bytes - i
+
+returns : tie.Need-returns Inv-loop μ-loop
+returns c = data-long _ (c .if1 .taken)
+
+loop-holds : tie.Need-loop-holds Inv-loop μ-loop
+loop-holds c = (omega arith, refl)
+
+shared-slice-read-b : tie.Need-shared-slice-read-b Inv-loop μ-loop
+shared-slice-read-b c = omega arith
+
+returns-2 : tie.Need-returns-2 Inv-loop μ-loop
+returns-2 c =
+    let here = c .before .before in
+    data-below _ _ (here .before .before .if1 .left) (here .before .loop .inv .1) (here .loop-test .taken) (c .if2 .taken)
+
+returns-3 : tie.Need-returns-3 Inv-loop μ-loop
+returns-3 c =
+    let here = c .before .before .before in
+    data-above _ _ (here .before .before .if1 .left) (here .before .loop .inv .1) (here .loop-test .taken) (c .before .if2 .left) (c .if3 .taken)
+
+add-i : tie.Need-add-i Inv-loop μ-loop
+add-i c = omega arith
+
+loop-less : tie.Need-loop-less Inv-loop μ-loop
+loop-less c = omega arith
+
+loop-again : tie.Need-loop-again Inv-loop μ-loop
+loop-again c =
+    let here = c .before .before .before in
+    (omega arith, data-more _ _ (here .before .before .if1 .left) (here .before .loop .inv .1) (here .loop-test .taken) (c .before .if2 .left) (c .if3 .left))
+
+returns-4 : tie.Need-returns-4 Inv-loop μ-loop
+returns-4 c = data-good _ _ (c .before .before .if1 .left) (c .before .loop .inv .1) (c .loop-test .left)
+
+pub good-data-spec : {M : Type 1} → statement M
+good-data-spec =
+    tie.close
+    (tie.spec
+    Inv-loop
+    μ-loop
+    returns
+    loop-holds
+    shared-slice-read-b
+    returns-2
+    returns-3
+    add-i
+    loop-less
+    loop-again
+    returns-4)

@@ -1,0 +1,72 @@
+-- What comes back: status and packet, as they are written. 01, "What comes back". Assumes nothing.
+use Prim.Native.Nat.{ℕ, _+_, _%_, _^_}
+use mathlib.Core.List.{List, [], _∷_, _++_}
+use mathlib.Core.Bool.{Bool, cond}
+use mathlib.Core.Path.{_≡_}
+use lib.ListN.{length}
+use lib.Dec.{leb}
+use Rattle.parts.specs.Parts.{padded, putIn}
+use Rattle.digits.specs.Decimal.{decimal, writtenAt}
+use Rattle.digits.specs.declared.Written.{Written}
+use Rattle.answers.specs.declared.Data.{Data}
+
+-- "Packet: `/`, `0`, status, data, 03, CR, LF": the bytes by their names
+abbrev pub slash : ℕ
+slash = 47
+
+abbrev pub hostAddress : ℕ
+hostAddress = 48
+
+abbrev pub endOfText : ℕ
+endOfText = 3
+
+abbrev pub carriageReturn : ℕ
+carriageReturn = 13
+
+abbrev pub lineFeed : ℕ
+lineFeed = 10
+
+-- 03, CR, LF
+abbrev pub tail : List ℕ
+tail = endOfText ∷ carriageReturn ∷ lineFeed ∷ []
+
+-- "`/`, `0`, status, data, 03, CR, LF"
+unfoldable pub packet : ℕ → List ℕ → List ℕ
+packet status bytes = slash ∷ hostAddress ∷ status ∷ (bytes ++ tail)
+
+-- three bytes stand before the data, three behind it
+abbrev pub dataAt : ℕ
+dataAt = 3
+
+abbrev pub aroundData : ℕ
+aroundData = 6
+
+-- "data 0 to 256 bytes"
+abbrev pub mostData : ℕ
+mostData = 256
+
+-- "262 bytes", the longest packet
+abbrev pub packetBytes : ℕ
+packetBytes = aroundData + mostData
+
+-- "low four bits"
+abbrev pub lowFour : ℕ → ℕ
+lowFour n = n % 2 ^ 4
+
+-- "bit 6 set, bit 5 set when idle after the frame, low four bits the code"
+unfoldable pub statusOf : Bool → ℕ → ℕ
+statusOf idle code = 2 ^ 6 + cond idle (2 ^ 5) 0 + lowFour code
+
+-- what is answered and what the buffer holds after a packet was to be written at its front: "answer bytes past the packet
+-- are unchanged"; without room, and for more data than a packet has, all are
+pub record PacketIs (buffer : List ℕ) (status : ℕ) (bytes : List ℕ) (answer : Written) (after : List ℕ) : Type 0 where
+  pub answers : answer ≡ cond (leb (length bytes) mostData) (writtenAt buffer 0 (packet status bytes)) Written.NoRoom
+  pub leaves : after ≡ cond (leb (length bytes) mostData) (putIn buffer 0 (packet status bytes)) buffer
+
+-- 4294967295, the greatest number that is answered, has ten digits
+abbrev pub mostDigits : ℕ
+mostDigits = 10
+
+-- "in decimal without leading zeros", as data: the digits, with zeros behind them, and how many digits
+unfoldable pub numberData : ℕ → Data
+numberData n = record { bytes = padded mostDigits (decimal n); length = length (decimal n) }

@@ -1,0 +1,25 @@
+-- `flow::end_loop` meets its contract: the two tests are the definition's. Assumes nothing.
+use Prim.Native.Nat.{ℕ, _<_}
+use mathlib.Core.Path.{_≡_}
+use mathlib.Core.Bool.{true}
+use native.Mathlib.Omega.{arith}
+use lib.Dec.{ltb}
+use borrow.Author.Needs.{needs}
+use borrow.Author.Tests.{lt-ltb, lt-leb, le-leb}
+use Rattle.flow.specs.Flow.{loopEnded}
+use Rattle.flow.proofs.end_loop.Statement.{statement}
+use Rattle.flow.proofs.end_loop.Tie as tie
+
+above-zero : (d : ℕ) → (d ≡ 0 → ⊥) → ltb 0 d ≡ true
+above-zero d h = lt-ltb 0 d (omega arith)
+
+pub end-loop-spec : {M : Type 1} → statement M
+unfolding loopEnded
+end-loop-spec =
+    tie.close
+    (tie.spec
+    (λ c. simp (c .if1 .taken))
+    (λ c. simp (lt-leb _ _ (c .if2 .taken), above-zero _ (c .before .if1 .left)))
+    (λ c. search needs)
+    (λ c κs. search needs)
+    (λ c. simp (c .close .ensures, le-leb _ _ (c .before .if2 .left), above-zero _ (c .before .before .if1 .left))))

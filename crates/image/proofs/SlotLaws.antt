@@ -1,0 +1,148 @@
+-- Laws of a slot judged: its parts, its unused bytes, and each way to break its rules. Assumes nothing.
+use Prim.Native.Nat.{ℕ, zero, suc, _+_, _-_, _≤_, _<_}
+use mathlib.Core.Path.{_≡_, refl, sym, _∙_}
+use mathlib.Core.List.{List}
+use mathlib.Core.Bool.{Bool, true, false, _&&_, and-true, and-false, and-assoc, false≢true}
+use mathlib.Core.Logic.{⊎-elim}
+use native.Mathlib.Nat.{add-sub-cancel-left, not-suc-le-zero, eq-or-lt-of-le, le-of-suc-le-suc}
+use native.Mathlib.Numerals.{add-one}
+use native.Mathlib.Omega.{arith}
+use lib.Dec.{ltb, leb, eqb}
+use lib.ListN.{length, getD, take, drop, length-take, length-drop, drop-of-length-le}
+use lib.Seq.{drop-cons}
+use borrow.Author.Tests.{eq-eqb, ne-eqb, le-leb, lt-leb, lt-ltb, le-ltb, leb-true, eqb-true, ltb-true}
+use Rattle.parts.specs.Parts.{part}
+use Rattle.lines.specs.Texts.{textGood}
+use Rattle.image.specs.Image.{imageBytes, slots, entryBytes, bodyBytes, startIn, lengthIn, startOf, entryOf, bodyOf, zeros, goodAt, rightLength, hasSlot, slotGood, slotsGood}
+
+pub and-left : (a b : Bool) → a && b ≡ true → a ≡ true
+and-left true b h = refl
+and-left false b h = h
+
+pub and-right : (a b : Bool) → a && b ≡ true → b ≡ true
+and-right true b h = h
+and-right false b h = absurd (false≢true h)
+
+-- `&xs[a..a + n]` as the code has it
+pub cut : (xs : List ℕ) (a n : ℕ) → take (a + n - a) (drop a xs) ≡ part xs a n
+unfolding part
+cut xs a n = rw add-sub-cancel-left
+
+length-part : (xs : List ℕ) (a n : ℕ) → a + n ≤ length xs → length (part xs a n) ≡ n
+unfolding part
+length-part xs a n h = simp (length-take, length-drop) (omega arith)
+
+pub length-entry : (image : List ℕ) (k : ℕ) → length image ≡ imageBytes → k < slots → length (entryOf image k) ≡ entryBytes
+unfolding entryOf
+length-entry image k h l = length-part image _ _ (omega arith)
+
+pub length-body : (image : List ℕ) (k : ℕ) → length image ≡ imageBytes → k < slots → length (bodyOf image k) ≡ bodyBytes
+unfolding bodyOf
+length-body image k h l = length-part image _ _ (omega arith)
+
+-- ---- "unused bytes are 0", in a loop that goes up
+
+module _ (s : List ℕ) (i : ℕ) (clean : Bool) (e : zeros s ≡ clean && zeros (drop i s)) where
+  pub zeros-more : i < length s → zeros s ≡ clean && eqb (getD s i 0) 0 && zeros (drop (i + 1) s)
+  unfolding zeros
+  zeros-more h = e ∙ rw (add-one, drop-cons s i 0) (sym (and-assoc clean (eqb (getD s i 0) 0) (zeros (drop (suc i) s))))
+
+  pub zeros-end : length s ≤ i → clean ≡ zeros s
+  unfolding zeros
+  zeros-end h = sym (e ∙ rw (drop-of-length-le s h) (and-true clean))
+
+-- ---- an entry and a body
+
+module _ (start : ℕ) (entry body : List ℕ) where
+  pub bad-start : (startIn entry ≡ start → ⊥) → false ≡ goodAt start entry body
+  unfolding goodAt
+  bad-start h = rw (ne-eqb (startIn entry) start h)
+
+  pub bad-length : bodyBytes < lengthIn entry → startIn entry ≡ start → false ≡ goodAt start entry body
+  unfolding goodAt
+  bad-length h e = rw (eq-eqb (startIn entry) start e, lt-leb (lengthIn entry) bodyBytes h)
+
+  -- with start and length right, what is left are the text and the unused bytes
+  pub good-rest : startIn entry ≡ start → lengthIn entry ≤ bodyBytes
+      → goodAt start entry body ≡ textGood (take (lengthIn entry) body) && zeros (drop (lengthIn entry) body)
+  unfolding goodAt
+  good-rest e h = rw (eq-eqb (startIn entry) start e, le-leb (lengthIn entry) bodyBytes h)
+
+-- ---- a slot of an image
+
+module _ (image : List ℕ) (k : ℕ) where
+  pub wrong-length : (length image ≡ imageBytes → ⊥) → false ≡ slotGood image k
+  unfolding slotGood
+  wrong-length h = rw (ne-eqb (length image) imageBytes h)
+
+  pub no-slot : slots ≤ k → false ≡ slotGood image k
+  unfolding slotGood
+  no-slot h = rw (le-ltb k slots h, and-false (rightLength image))
+
+  pub slot-judged : length image ≡ imageBytes → k < slots → slotGood image k ≡ goodAt (startOf k) (entryOf image k) (bodyOf image k)
+  unfolding slotGood
+  slot-judged h l = rw (eq-eqb (length image) imageBytes h, lt-ltb k slots l)
+
+-- what a good slot has
+pub record Sound (image : List ℕ) (k : ℕ) : Type 0 where
+  pub long : length image ≡ imageBytes
+  pub slot : k < slots
+  pub start : startIn (entryOf image k) ≡ startOf k
+  pub fits : lengthIn (entryOf image k) ≤ bodyBytes
+  pub passes : textGood (take (lengthIn (entryOf image k)) (bodyOf image k)) ≡ true
+  pub unused : zeros (drop (lengthIn (entryOf image k)) (bodyOf image k)) ≡ true
+
+all-four : (a b c d : Bool) → a && b && c && d ≡ true → (a ≡ true) × (b ≡ true) × (c ≡ true) × (d ≡ true)
+all-four a b c d h =
+    let three = and-left (a && b && c) d h in
+    let two = and-left (a && b) c three in
+    (and-left a b two, and-right a b two, and-right (a && b) c three, and-right (a && b && c) d h)
+
+pub sound : (image : List ℕ) (k : ℕ) → slotGood image k ≡ true → Sound image k
+unfolding slotGood goodAt
+sound image k h =
+    let entry = entryOf image k in
+    let body = bodyOf image k in
+    let n = lengthIn entry in
+    let has = and-left (hasSlot image k) (goodAt (startOf k) entry body) h in
+    let good = all-four
+    (eqb (startIn entry) (startOf k))
+    (leb n bodyBytes)
+    (textGood (take n body))
+    (zeros (drop n body))
+    (and-right (hasSlot image k) (goodAt (startOf k) entry body) h) in
+    record {
+      long = eqb-true _ _ (and-left (rightLength image) (ltb k slots) has);
+      slot = ltb-true k slots (and-right (rightLength image) (ltb k slots) has);
+      start = eqb-true _ _ (good .0);
+      fits = leb-true _ _ (good .1);
+      passes = good .2;
+      unused = good .3;
+    }
+
+-- ---- every slot
+
+-- one bad slot is enough
+pub slots-bad : (image : List ℕ) (k n : ℕ) → k < n → slotGood image k ≡ false → slotsGood image n ≡ false
+unfolding slotsGood
+slots-bad image k zero h e = absurd (not-suc-le-zero h)
+slots-bad image k (suc n) h e =
+    ⊎-elim
+    (λ q. let f : slotGood image n ≡ false = cc in rw (f, and-false))
+    (λ l. rw (slots-bad image k n l e))
+    (eq-or-lt-of-le (le-of-suc-le-suc h))
+
+-- all are good exactly when each is
+pub slots-each : (image : List ℕ) (k n : ℕ) → k < n → slotsGood image n ≡ true → slotGood image k ≡ true
+unfolding slotsGood
+slots-each image k zero h e = absurd (not-suc-le-zero h)
+slots-each image k (suc n) h e =
+    ⊎-elim
+    (λ q. let f : slotGood image n ≡ true = and-right (slotsGood image n) (slotGood image n) e in cc)
+    (λ l. slots-each image k n l (and-left (slotsGood image n) (slotGood image n) e))
+    (eq-or-lt-of-le (le-of-suc-le-suc h))
+
+pub slots-all : (image : List ℕ) (n : ℕ) → ((k : ℕ) → k < n → slotGood image k ≡ true) → slotsGood image n ≡ true
+unfolding slotsGood
+slots-all image zero each = refl
+slots-all image (suc n) each = rw (slots-all image n (λ k l. each k (omega arith)), each n (omega arith))

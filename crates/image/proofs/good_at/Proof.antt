@@ -1,0 +1,109 @@
+-- `image::good_at` meets its contract: start and length are tested as the definition has them, and the text and the unused bytes are left.
+-- Assumes nothing.
+use Prim.Native.Nat.{_-_}
+use mathlib.Core.Path.{_≡_, sym, _∙_}
+use mathlib.Core.Bool.{_&&_}
+use native.Mathlib.Omega.{arith}
+use lib.ListN.{length, take, drop, length-drop}
+use lib.Seq.{take-all}
+use Rattle.lines.specs.Texts.{textGood}
+use Rattle.image.specs.Image.{zeros, goodAt}
+use Rattle.image.proofs.SlotLaws.{bad-start, bad-length, good-rest}
+use borrow.Author.Needs.{needs}
+use Rattle.image.proofs.good_at.Statement.{statement}
+use Rattle.image.proofs.good_at.Tie as tie
+
+word-at-requires : tie.Need-word-at-requires
+word-at-requires c κs = search needs
+
+returns : tie.Need-returns
+returns c =
+    let w = c .before in
+    let a = w .before .before .before .args in
+    bad-start (a .start) (a .entry .now) (a .body .now) (λ q. c .if1 .taken (w .word-at .ensures ∙ q))
+
+word-at-requires-2 : tie.Need-word-at-requires-2
+word-at-requires-2 c κs = search needs
+
+returns-2 : tie.Need-returns-2
+returns-2 c =
+    let v = c .before in
+    let w = v .before .before in
+    let a = w .before .before .before .args in
+    bad-length (a .start) (a .entry .now) (a .body .now) (omega (arith, v .word-at2 .ensures)) (sym (w .word-at .ensures) ∙ v .before .if1 .left)
+
+sub-check-text : tie.Need-sub-check-text
+sub-check-text c = search needs
+
+part-check-text-start : tie.Need-part-check-text-start
+part-check-text-start c = search needs
+
+part-check-text-end : tie.Need-part-check-text-end
+part-check-text-end c = search needs
+
+check-text-requires : tie.Need-check-text-requires
+check-text-requires c κs = search needs
+
+sub-all-zero : tie.Need-sub-all-zero
+sub-all-zero c = search needs
+
+part-all-zero-start : tie.Need-part-all-zero-start
+part-all-zero-start c = search needs
+
+part-all-zero-end : tie.Need-part-all-zero-end
+part-all-zero-end c = search needs
+
+all-zero-requires : tie.Need-all-zero-requires
+all-zero-requires c κs = search needs
+
+-- the text is as long as the entry says
+rest : (c : tie.Else2) → let v = c .before in let a = v .before .before .before .before .before .args in
+    goodAt (a .start) (a .entry .now) (a .body .now) ≡ textGood (take (v .word-at2 .result) (a .body .now)) && zeros (drop (v .word-at2 .result) (a .body .now))
+rest c =
+    let v = c .before in
+    let w = v .before .before in
+    let a = w .before .before .before .args in
+    rw
+    (v .word-at2 .ensures)
+    (good-rest (a .start) (a .entry .now) (a .body .now) (sym (w .word-at .ensures) ∙ v .before .if1 .left) (omega (arith, v .word-at2 .ensures)))
+
+-- what is checked is the text
+judged : (c : tie.After-check-text) → let v = c .before .before .before in
+    textGood (take (v .word-at2 .result) (v .before .before .before .before .before .args .body .now)) ≡ c .check-text .result
+judged c =
+    let n = c .before .before .before .word-at2 .result in
+    let z : n ≡ n - 0 = omega arith in
+    rw z (sym (c .check-text .ensures))
+
+returns-3 : tie.Need-returns-3
+returns-3 c =
+    let t = c .before .before .before in
+    let f = t .before .before in
+    let n = f .before .word-at2 .result in
+    let body = f .before .before .before .before .before .before .args .body .now in
+    let e : take (length body - n) (drop n body) ≡ drop n body = take-all (length body - n) (drop n body) (simp length-drop (omega arith)) in
+    c .all-zero .ensures ∙ sym (rest f ∙ rw (judged t ∙ c .before .before .if3 .taken, e))
+
+returns-4 : tie.Need-returns-4
+returns-4 c =
+    let t = c .before in
+    sym (rest (t .before .before) ∙ rw (judged t ∙ c .if3 .left))
+
+pub good-at-spec : {M : Type 1} → statement M
+good-at-spec =
+    tie.close
+    (tie.spec
+    word-at-requires
+    returns
+    word-at-requires-2
+    returns-2
+    sub-check-text
+    part-check-text-start
+    part-check-text-end
+    check-text-requires
+    sub-all-zero
+    part-all-zero-start
+    part-all-zero-end
+    all-zero-requires
+    returns-3
+    returns-4)

@@ -1,0 +1,52 @@
+-- What the public calls answer and leave. 01, "Image of the programs" and "What comes back". Assumes nothing.
+use Prim.Native.Nat.{ℕ}
+use mathlib.Core.Path.{_≡_}
+use mathlib.Core.List.{List}
+use mathlib.Core.Bool.{Bool, cond}
+use lib.ListN.{length}
+use lib.Dec.{ltb, leb}
+use Rattle.image.specs.Image.{rightLength, slots, bodyBytes, slotsGood, withText, emptyImage}
+use Rattle.image.specs.declared.Checked.{Checked}
+use Rattle.image.specs.declared.Stored.{Stored}
+
+-- "image not 4,160 bytes, then bad image"
+unfoldable pub checkedOf : List ℕ → Checked
+checkedOf image = cond (rightLength image) (cond (slotsGood image slots) Checked.Good Checked.Bad) Checked.WrongLength
+
+-- the number of each answer, for the firmware
+abbrev pub checkedNumber : Checked → ℕ
+checkedNumber Checked.Good = 0
+checkedNumber Checked.WrongLength = 1
+checkedNumber Checked.Bad = 2
+
+-- what a store answers: "image not 4,160 bytes", a slot not "0 to 15", a text too long for its body, or done
+unfoldable pub storedOf : List ℕ → ℕ → List ℕ → Stored
+storedOf image slot text =
+    cond
+    (rightLength image)
+    (cond (ltb slot slots) (cond (leb (length text) bodyBytes) Stored.Done Stored.TooLong) Stored.NoSlot)
+    Stored.WrongLength
+
+-- what each answer leaves: "`s` rewrites one entry and one body", a refusal nothing
+abbrev pub leftBy : Stored → List ℕ → ℕ → List ℕ → List ℕ
+leftBy Stored.Done image slot text = withText image slot text
+leftBy Stored.WrongLength image slot text = image
+leftBy Stored.NoSlot image slot text = image
+leftBy Stored.TooLong image slot text = image
+
+unfoldable pub afterStore : List ℕ → ℕ → List ℕ → List ℕ
+afterStore image slot text = leftBy (storedOf image slot text) image slot text
+
+-- the answer and the image after a store
+pub record StoredIs (image : List ℕ) (slot : ℕ) (text : List ℕ) (answer : Stored) (after : List ℕ) : Type 0 where
+  pub answers : answer ≡ storedOf image slot text
+  pub leaves : after ≡ afterStore image slot text
+
+-- "`?9` writes the good image with all slots empty"; an image of the wrong length stays as it is
+unfoldable pub afterClear : List ℕ → List ℕ
+afterClear image = cond (rightLength image) emptyImage image
+
+-- the answer and the image after `?9`: whether the length was right
+pub record ClearedIs (image : List ℕ) (answer : Bool) (after : List ℕ) : Type 0 where
+  pub answers : answer ≡ rightLength image
+  pub leaves : after ≡ afterClear image

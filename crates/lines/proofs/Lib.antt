@@ -1,0 +1,9 @@
+pub mod TextLaws
+pub mod ScanLaws
+pub mod BodyLaws
+pub mod LoopLaws
+pub mod PieceLaws
+pub mod ListLaws
+pub mod TakenLaws
+pub mod CodeLaws
+pub mod SpellLaws

@@ -1,0 +1,239 @@
+-- What a checked text has at each of its places, and the loops that enclose a place. Assumes nothing.
+use Prim.Native.Nat.{ℕ, zero, suc, _+_, _-_, _≤_, _<_}
+use mathlib.Core.Path.{_≡_, refl, sym, _∙_}
+use mathlib.Core.List.{List, [], _∷_}
+use mathlib.Core.Bool.{Bool, true, false, cond, and-eq-true-iff}
+use native.Mathlib.Omega.{arith}
+use native.Mathlib.Nat.{add-zero}
+use lib.ListN.{length}
+use lib.Dec.{ltb}
+use borrow.Author.Tests.{ltb-true, eqb-true, eq-eqb, ne-eqb}
+use Rattle.commands.specs.declared.Command.{Command}
+use Rattle.commands.specs.declared.Command.the-variants.{LoopBegin, LoopEnd, Skip, Jump, Plain}
+use Rattle.commands.specs.declared.Read.{Read}
+use Rattle.commands.specs.declared.Read.the-variants.{At, Bad, End}
+use Rattle.commands.specs.Reading.{fault, readAt}
+use Rattle.commands.proofs.ReadingLaws.{read-step}
+use Rattle.lines.specs.declared.Judged.the-variants.{Passes, Refused}
+use Rattle.lines.specs.Texts.{Reading, commands, faulty, before, goesOn, readingFrom, structured, skippable, judged, lineJudged, storable, storedJudged, mostOpen}
+use Rattle.lines.specs.Loops.{rest, after, Enclosed, start, next, scanTo, enclosing, countCommand, countFrom, countOf, Checked, Skippable, Lawful}
+use Rattle.lines.proofs.TextLaws.{reading-law}
+
+-- ---- what is left of a checked text at a place
+
+-- the text reads from here to its end, and its structure holds with so many loops open
+pub record Rest (t : List ℕ) (at depth : ℕ) : Type 0 where
+  pub left : List Command
+  pub reads : readingFrom t at ≡ commands left
+  pub holds : structured depth left ≡ true
+
+pub passes : (test : List Command → Bool) (r : Reading) → judged test r ≡ Passes → (cs : List Command) × (r ≡ commands cs) × (test cs ≡ true)
+passes test (commands cs) e = go (test cs) refl e
+  where
+    go : (b : Bool) → test cs ≡ b → cond b Passes (Refused (fault 2)) ≡ Passes → (ds : List Command) × (commands cs ≡ commands ds) × (test ds ≡ true)
+    go true q k = (cs, refl, q)
+    go false q k = let z : _≡_ {A = ℕ} 0 1 = cc in absurd (omega arith)
+passes test (faulty f) e = let z : _≡_ {A = ℕ} 0 1 = cc in absurd (omega arith)
+
+-- "the check for stored text" is stricter than a line's
+pub stored-checked : (t : List ℕ) → storedJudged t ≡ Passes → Checked t
+unfolding lineJudged storedJudged
+stored-checked t e =
+    let p = passes storable (readingFrom t 0) e in
+    let h = and-eq-true-iff (structured 0 (p .0)) _ .0 (p .2) in
+    rw (p .1, h .0)
+
+-- how many loops are open behind a command
+abbrev deeper : Command → ℕ → ℕ
+deeper LoopBegin d = d + 1
+deeper (LoopEnd m) d = d - 1
+deeper (Skip m) d = d
+deeper (Jump m) d = d
+deeper (Plain a) d = d
+
+deeper-after : (c : Command) (n : ℕ) (st : List ℕ) → deeper c (length st) ≡ length (after c n st)
+deeper-after LoopBegin n st = omega arith
+deeper-after (LoopEnd m) n [] = refl
+deeper-after (LoopEnd m) n (x ∷ xs) = omega arith
+deeper-after (Skip m) n st = refl
+deeper-after (Jump m) n st = refl
+deeper-after (Plain a) n st = refl
+
+-- what the structure asks of a command, and what it leaves
+abbrev Allows : ℕ → Command → List Command → Type 0
+Allows d LoopBegin cs = d < mostOpen
+Allows d (LoopEnd m) cs = 0 < d
+Allows d (Skip m) cs = skippable cs ≡ true
+Allows d (Jump m) cs = Unit
+Allows d (Plain a) cs = Unit
+
+structure-next : (d : ℕ) (c : Command) (cs : List Command) → structured d (c ∷ cs) ≡ true → Allows d c cs × (structured (deeper c d) cs ≡ true)
+unfolding structured
+structure-next d LoopBegin cs e = let h = and-eq-true-iff (ltb d mostOpen) _ .0 e in (ltb-true _ _ (h .0), h .1)
+structure-next d (LoopEnd m) cs e = let h = and-eq-true-iff (ltb 0 d) _ .0 e in (ltb-true _ _ (h .0), h .1)
+structure-next d (Skip m) cs e = and-eq-true-iff (skippable cs) _ .0 e
+structure-next d (Jump m) cs e = (tt, e)
+structure-next d (Plain a) cs e = (tt, e)
+
+-- one command taken from what is left
+pub before-is : (c : Command) (r : Reading) (cs : List Command) → before c r ≡ commands cs → (ds : List Command) × (r ≡ commands ds) × (cs ≡ c ∷ ds)
+before-is c (commands ds) cs e = let q : c ∷ ds ≡ cs = cc in (ds, refl, sym q)
+before-is c (faulty f) cs e = let z : _≡_ {A = ℕ} 0 1 = cc in absurd (omega arith)
+
+pub record Taken-from (t : List ℕ) (depth n : ℕ) (c : Command) : Type 0 where
+  pub more : List Command
+  pub reads : readingFrom t n ≡ commands more
+  pub allows : Allows depth c more
+  pub holds : structured (deeper c depth) more ≡ true
+
+take-one : {t : List ℕ} {at depth : ℕ} {c : Command} {n : ℕ} → Rest t at depth → readAt t at ≡ At c n → Taken-from t depth n c
+take-one {t} {at} {depth} {c} {n} r e =
+    let p = before-is c (readingFrom t n) (r .left) (sym (reading-law t at ∙ rw e) ∙ r .reads) in
+    let h = structure-next depth c (p .0) (rw (p .2) at (r .holds)) in
+    record { more = p .0; reads = p .1; allows = h .0; holds = h .1 }
+
+pub rest-at : {t : List ℕ} {at : ℕ} {st : List ℕ} → Checked t → Enclosed t at st → Rest t at (length st)
+unfolding lineJudged
+rest-at {t} h start = let p = passes (structured 0) (readingFrom t 0) h in record { left = p .0; reads = p .1; holds = p .2 }
+rest-at {t} h (next {at = a} {starts = s} c n p e) =
+    let q = take-one (rest-at h p) e in
+    record { left = q .more; reads = q .reads; holds = rw (deeper-after c n s) at (q .holds) }
+
+-- what may be skipped stands there
+skip-lawful : (t : List ℕ) (n : ℕ) (cs : List Command) → readingFrom t n ≡ commands cs → skippable cs ≡ true → Skippable (readAt t n)
+skip-lawful t n cs e s = go (readAt t n) (sym (reading-law t n) ∙ e) s
+  where
+    no : {A : Type 0} → false ≡ true → A
+    no q = let z : _≡_ {A = ℕ} 0 1 = cc in absurd (omega arith)
+
+    with-one : (c : Command) (m : ℕ) (ds : List Command) → before c (readingFrom t m) ≡ commands ds → skippable ds ≡ true → Skippable (At c m)
+    with-one c m ds q k = let p = before-is c (readingFrom t m) ds q in kind c (p .0) (rw (p .2) at k)
+      where
+        kind : (d : Command) (more : List Command) → skippable (d ∷ more) ≡ true → Skippable (At d m)
+        kind LoopBegin more k = no k
+        kind (LoopEnd i) more k = no k
+        kind (Skip i) more k = tt
+        kind (Jump i) more k = tt
+        kind (Plain a) more k = tt
+
+    go : (r : Read) → goesOn r (λ m. readingFrom t m) ≡ commands cs → skippable cs ≡ true → Skippable r
+    go (At c m) q k = with-one c m cs q k
+    go (Bad f) q k = let z : _≡_ {A = ℕ} 0 1 = cc in absurd (omega arith)
+    go End q k = let w : cs ≡ [] = cc in no (rw w at k)
+
+-- every place that is reached is a command's or the end, and what stands there is lawful
+pub lawful : {t : List ℕ} {at : ℕ} {st : List ℕ} → Checked t → Enclosed t at st → Lawful t (length st) (readAt t at)
+unfolding structured
+lawful {t} {at} {st} h p = go (readAt t at) refl (rest-at h p)
+  where
+    kind : (c : Command) (n : ℕ) → Taken-from t (length st) n c → Lawful t (length st) (At c n)
+    kind LoopBegin n q = q .allows
+    kind (LoopEnd m) n q = q .allows
+    kind (Skip m) n q = skip-lawful t n (q .more) (q .reads) (q .allows)
+    kind (Jump m) n q = tt
+    kind (Plain a) n q = tt
+
+    ended : (cs : List Command) → commands [] ≡ commands cs → structured (length st) cs ≡ true → length st ≡ 0
+    ended [] e s = eqb-true (length st) 0 s
+    ended (c ∷ cs) e s = let z : _≡_ {A = ℕ} 0 1 = cc in absurd (omega arith)
+
+    go : (r : Read) → readAt t at ≡ r → Rest t at (length st) → Lawful t (length st) r
+    go (At c n) e q = kind c n (take-one q e)
+    go (Bad f) e q = let w : faulty f ≡ commands (q .left) = sym (reading-law t at ∙ rw e) ∙ q .reads in let z : _≡_ {A = ℕ} 0 1 = cc in absurd (omega arith)
+    go End e q = ended (q .left) (sym (reading-law t at ∙ rw e) ∙ q .reads) (q .holds)
+
+-- "at most four open"
+pub at-most-four : {t : List ℕ} {at : ℕ} {st : List ℕ} → Checked t → Enclosed t at st → length st ≤ mostOpen
+at-most-four h start = omega arith
+at-most-four {t} h (next {at = a} {starts = s} c n p e) = go c (rw e at (lawful h p)) (at-most-four h p)
+  where
+    go : (c : Command) → Lawful t (length s) (At c n) → length s ≤ mostOpen → length (after c n s) ≤ mostOpen
+    go LoopBegin q l = omega arith
+    go (LoopEnd m) q l = let z = deeper-after (LoopEnd m) n s in omega arith
+    go (Skip m) q l = l
+    go (Jump m) q l = l
+    go (Plain b) q l = l
+
+-- the start of each open loop is a place where that loop and those around it are open
+abbrev pub Backs : List ℕ → List ℕ → Type 0
+Backs t [] = Unit
+Backs t (s ∷ outer) = Enclosed t s (s ∷ outer) × Backs t outer
+
+pub backs : {t : List ℕ} {at : ℕ} {st : List ℕ} → Enclosed t at st → Backs t st
+backs start = tt
+backs (next LoopBegin n p e) = (next LoopBegin n p e, backs p)
+backs {t} (next {starts = s} (LoopEnd m) n p e) = outer s (backs p)
+  where
+    outer : (xs : List ℕ) → Backs t xs → Backs t (rest xs)
+    outer [] y = tt
+    outer (x ∷ xs) y = y .1
+backs (next (Skip m) n p e) = backs p
+backs (next (Jump m) n p e) = backs p
+backs (next (Plain a) n p e) = backs p
+
+-- ---- the relation is the function `enclosing`
+
+scan-at : {t : List ℕ} {at : ℕ} {st : List ℕ} → Enclosed t at st → (to : ℕ) → at ≤ to → (k : ℕ) × (to ≤ at + k) × (enclosing t to ≡ scanTo k t to at st)
+unfolding enclosing scanTo
+scan-at start to l = (to, omega arith, refl)
+scan-at {t} (next {at = a} {starts = s} c n p e) to l =
+    let lt = read-step t a e in
+    let q = scan-at p to (omega arith) in
+    go (q .0) (q .1) (q .2) (lt .0)
+  where
+    go : (k : ℕ) → to ≤ a + k → enclosing t to ≡ scanTo k t to a s → a < n → (j : ℕ) × (to ≤ n + j) × (enclosing t to ≡ scanTo j t to n (after c n s))
+    go zero w r lt = absurd (omega arith)
+    go (suc j) w r lt = (j, omega arith, r ∙ rw (ne-eqb a to (omega arith), e))
+
+pub enclosed-by : {t : List ℕ} {at : ℕ} {st : List ℕ} → Enclosed t at st → st ≡ enclosing t at
+unfolding scanTo
+enclosed-by {t} {at} {st} p = let q = scan-at p at (omega arith) in sym (q .2 ∙ go (q .0))
+  where
+    go : (k : ℕ) → scanTo k t at at st ≡ st
+    go zero = refl
+    go (suc k) = rw (eq-eqb at at refl)
+
+-- ---- the count of each open loop, seen from a place inside it: i loops are opened between
+
+abbrev Seen : List ℕ → ℕ → ℕ → ℕ → Type 0
+Seen t at s i = (k : ℕ) × (length t ≤ at + k) × (countOf t s ≡ countFrom k t at i)
+
+abbrev Counted : List ℕ → ℕ → ℕ → List ℕ → Type 0
+Counted t at i [] = Unit
+Counted t at i (s ∷ outer) = Seen t at s i × Counted t at (suc i) outer
+
+seen-next : (t : List ℕ) (at s i : ℕ) {c : Command} {n : ℕ} → readAt t at ≡ At c n → Seen t at s i → (k : ℕ) × (length t ≤ n + k) × (countOf t s ≡ countCommand c i (λ j. countFrom k t n j))
+unfolding countFrom
+seen-next t at s i {c} {n} e (zero, l, r) = let h = read-step t at e in absurd (omega arith)
+seen-next t at s i {c} {n} e (suc k, l, r) = let h = read-step t at e in (k, omega arith, r ∙ rw e)
+
+counted-next : (t : List ℕ) (at i j : ℕ) (st : List ℕ) {c : Command} {n : ℕ} → readAt t at ≡ At c n → ((k : ℕ) (g : ℕ → ℕ) → countCommand c (i + k) g ≡ g (j + k)) → Counted t at i st → Counted t n j st
+counted-next t at i j [] e q h = tt
+counted-next t at i j (s ∷ outer) {c} {n} e q h =
+    let z = seen-next t at s i e (h .0) in (
+      (z .0, z .1, z .2 ∙ simp add-zero at (q 0 (λ m. countFrom (z .0) t n m))),
+      counted-next t at (suc i) (suc j) outer e (λ k g. up k g) (h .1),
+    )
+  where
+    up : (k : ℕ) (g : ℕ → ℕ) → countCommand c (suc i + k) g ≡ g (suc j + k)
+    up k g = let a : suc i + k ≡ i + suc k = omega arith in let b : suc j + k ≡ j + suc k = omega arith in rw (a, b) (q (suc k) g)
+
+one : (k : ℕ) → 1 + k ≡ suc (0 + k)
+one k = omega arith
+
+counted : {t : List ℕ} {at : ℕ} {st : List ℕ} → Enclosed t at st → Counted t at 0 st
+unfolding countOf
+counted start = tt
+counted {t} (next {at = a} {starts = s} LoopBegin n p e) = ((length t, omega arith, refl), counted-next t a 0 1 s e (λ k g. rw (one k)) (counted p))
+counted {t} (next {at = a} {starts = s} (LoopEnd m) n p e) = outer s (counted p)
+  where
+    outer : (xs : List ℕ) → Counted t a 0 xs → Counted t n 0 (rest xs)
+    outer [] y = tt
+    outer (x ∷ xs) y = counted-next t a 1 0 xs e (λ k g. rw (one k)) (y .1)
+counted {t} (next {at = a} {starts = s} (Skip m) n p e) = counted-next t a 0 0 s e (λ k g. refl) (counted p)
+counted {t} (next {at = a} {starts = s} (Jump m) n p e) = counted-next t a 0 0 s e (λ k g. refl) (counted p)
+counted {t} (next {at = a} {starts = s} (Plain b) n p e) = counted-next t a 0 0 s e (λ k g. refl) (counted p)
+
+-- at the end of a loop stands its count
+pub count-here : {t : List ℕ} {at : ℕ} {s : ℕ} {outer : List ℕ} {n m : ℕ} → Enclosed t at (s ∷ outer) → readAt t at ≡ At (LoopEnd m) n → countOf t s ≡ m
+count-here {t} {at} {s} p e = seen-next t at s 0 e (counted p .0) .2

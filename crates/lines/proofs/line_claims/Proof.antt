@@ -1,0 +1,45 @@
+-- `lines::line_claims`: every claim is a law of `proofs/`, and the examples compute. Assumes nothing.
+use mathlib.Core.Path.{_≡_, refl}
+use mathlib.Core.Bool.{true}
+use Rattle.digits.specs.Operand.{digitRun, valueAfter, operandOf, operandAt}
+use Rattle.commands.specs.Table.{table, find, asksOf, commandOf, oneOf, powerIn, exponentOf, within}
+use Rattle.commands.specs.Reading.{readAt}
+use Rattle.lines.specs.Texts.{readingIn, readingFrom, structured, lineJudged, storedJudged}
+use Rattle.lines.specs.Bodies.{same, immediates, immediateIn, bodyOf, endsWithR, textEnd, takenOf, lineOf, lineCode}
+use Rattle.lines.specs.Examples.{bytes, examples, each}
+use Rattle.lines.proofs.TextLaws.{reading-law}
+use Rattle.lines.proofs.LoopLaws.{lawful, at-most-four, enclosed-by, count-here}
+use Rattle.lines.proofs.CodeLaws.{codes}
+use Rattle.lines.proofs.ListLaws.{list-law, list-back, written-spells, spelled-taken}
+use Rattle.lines.proofs.TakenLaws.{stored, text-checked, held, one-or-more}
+use Rattle.lines.proofs.SpellLaws.{taken-spelled, reads-spelled}
+use Rattle.lines.proofs.line_claims.Statement.{statement}
+use Rattle.lines.proofs.line_claims.Tie as tie
+
+edges : each examples ≡ true
+unfolding examples each bytes lineCode bodyOf same immediates immediateIn endsWithR textEnd takenOf lineOf readingIn readingFrom structured lineJudged storedJudged readAt table find asksOf commandOf oneOf powerIn exponentOf within operandAt operandOf digitRun valueAfter
+edges = refl
+
+returns : tie.Need-returns
+returns c = record {
+  list-code = list-law;
+  reads-back = list-back;
+  written-spells = written-spells;
+  spelled-taken = λ w. spelled-taken (w .short) (w .spells) (w .no-fault);
+  reads-spelled = reads-spelled;
+  taken-spelled = taken-spelled;
+  codes = codes;
+  from-the-left = reading-law;
+  stored = stored;
+  stored-checked = text-checked;
+  held = held;
+  one-or-more = one-or-more;
+  lawful = lawful;
+  at-most-four = at-most-four;
+  enclosed-by = enclosed-by;
+  count-here = count-here;
+  edges = edges;
+}
+
+pub line-claims-spec : {M : Type 1} → statement M
+line-claims-spec = tie.close (tie.spec returns)

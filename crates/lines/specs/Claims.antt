@@ -1,0 +1,78 @@
+-- What is claimed of lines: which are taken, said of lists of commands and not by reading bytes; and what a taken text has.
+-- 01, "Lines", "The host's list", "Structure". Assumes nothing.
+use Prim.Native.Nat.{ℕ, _+_, _≤_}
+use mathlib.Core.List.{List, [], _∷_}
+use mathlib.Core.Bool.{Bool, true}
+use mathlib.Core.Path.{_≡_}
+use lib.ListN.{length, take}
+use Rattle.parts.specs.Parts.{part}
+use Rattle.commands.specs.declared.Command.the-variants.{LoopEnd}
+use Rattle.commands.specs.declared.Read.the-variants.{At}
+use Rattle.commands.specs.Table.{oneOf}
+use Rattle.commands.specs.Reading.{readAt}
+use Rattle.lines.specs.declared.Body.{Body}
+use Rattle.lines.specs.declared.Taken.{Taken}
+use Rattle.lines.specs.Texts.{goesOn, readingFrom, mostBytes, mostOpen, textGood}
+use Rattle.lines.specs.Bodies.{bodyOf, lineOf, mostSlot, takenCode, lineCode}
+use Rattle.lines.specs.Lists.{HostList, writtenOf, listFault, listCode, list, listOf, Spells}
+use Rattle.lines.specs.Loops.{Enclosed, enclosing, countOf, Checked, Lawful}
+use Rattle.lines.specs.Examples.{examples, each}
+
+-- a body of at most 256 bytes spells a list with nothing wrong in it
+pub record SpelledAs (l : HostList) (b : List ℕ) : Type 0 where
+  pub short : length b ≤ mostBytes
+  pub spells : Spells l b
+  pub no-fault : listFault l ≡ 0
+
+-- such a list, and that the body reads as it
+pub record Spelled (b : List ℕ) : Type 0 where
+  pub means : HostList
+  pub spelled : SpelledAs means b
+  pub reads : listOf b ≡ list means
+
+-- what is stored from a line: "a slot 0 to 15", "the text between slot and `R`", which passes "the check for stored text"
+pub record StoredFrom (b : List ℕ) (slot at n : ℕ) : Type 0 where
+  pub slot-most : slot ≤ mostSlot
+  pub inside : at + n ≤ length b
+  pub good : textGood (part b at n) ≡ true
+
+-- what becomes the current text: the first bytes of the body, checked
+pub record TakenFrom (b : List ℕ) (n : ℕ) : Type 0 where
+  pub inside : n ≤ length b
+  pub checked : Checked (take n b)
+
+pub record LineClaims : Type 0 where
+  -- every list, written as a body, gets the code of the list, by its length, its ranges and its structure
+  pub list-code : (l : HostList) → lineCode (writtenOf l) ≡ listCode l
+  -- a list that is taken reads back, slot and `R` included
+  pub reads-back : (l : HostList) → listCode l ≡ 0 → listOf (writtenOf l) ≡ list l
+  -- what the host writes is a spelling of its list
+  pub written-spells : (l : HostList) → Spells l (writtenOf l)
+  -- every spelling, leading zeros and a bare `G` or `H` too, is taken and reads as its list: no line is refused that 01 takes
+  pub spelled-taken : {l : HostList} {b : List ℕ} → SpelledAs l b → (lineCode b ≡ 0) × (listOf b ≡ list l)
+  -- nothing else reads as a list, and what is taken as a line or a store reads as one: no line is taken that 01 refuses
+  pub reads-spelled : (b : List ℕ) (l : HostList) → listOf b ≡ list l → SpelledAs l b
+  pub taken-spelled : (b : List ℕ) → bodyOf b ≡ Body.Line → takenCode (lineOf b) ≡ 0 → Spelled b
+  -- "(2)", "(3)": there is no other code
+  pub codes : (b : List ℕ) → oneOf (0 ∷ 2 ∷ 3 ∷ []) (lineCode b) ≡ true
+  -- "the first fault from the left": a text read from a place is its command there, then the text read from behind it
+  pub from-the-left : (t : List ℕ) (at : ℕ) → readingFrom t at ≡ goesOn (readAt t at) (λ n. readingFrom t n)
+  -- what is stored may be stored, and may run
+  pub stored : (b : List ℕ) (slot at n : ℕ) → lineOf b ≡ Taken.Store slot at n → length b ≤ mostBytes
+      → StoredFrom b slot at n
+  pub stored-checked : (t : List ℕ) → textGood t ≡ true → Checked t
+  -- "its commands, one or more, become the current text"
+  pub held : (b : List ℕ) (n : ℕ) (run : Bool) → lineOf b ≡ Taken.Line n run → TakenFrom b n
+  pub one-or-more : (b : List ℕ) (n : ℕ) (run : Bool) → bodyOf b ≡ Body.Line → lineOf b ≡ Taken.Line n run → 1 ≤ n
+  -- each place of a checked text: no fault, no fifth loop, no `G` without its `g`, no `S` before one, all closed at the end
+  pub lawful : {t : List ℕ} {at : ℕ} {starts : List ℕ} → Checked t → Enclosed t at starts
+      → Lawful t (length starts) (readAt t at)
+  -- "at most four open"
+  pub at-most-four : {t : List ℕ} {at : ℕ} {starts : List ℕ} → Checked t → Enclosed t at starts → length starts ≤ mostOpen
+  -- the loops open at a place are those that enclose it, whatever way was run
+  pub enclosed-by : {t : List ℕ} {at : ℕ} {starts : List ℕ} → Enclosed t at starts → starts ≡ enclosing t at
+  -- "each `G` closes the nearest open `g`": its number is the count of the innermost loop
+  pub count-here : {t : List ℕ} {at start : ℕ} {outer : List ℕ} {n m : ℕ} → Enclosed t at (start ∷ outer)
+      → readAt t at ≡ At (LoopEnd m) n → countOf t start ≡ m
+  -- K5 to K8, K11 and the edges around them
+  pub edges : each examples ≡ true

@@ -1,0 +1,77 @@
+-- Bodies and the codes that an idle unit gives them, 0 where it takes them: K5 to K8 and K11 of 01, and edges around them.
+-- Assumes nothing.
+use Prim.Native.Nat.{ℕ}
+use Prim.Native.Char.{code}
+use Prim.Native.String as Text
+use mathlib.Core.List.{List, [], _∷_, _++_}
+use mathlib.Core.Bool.{Bool, true, _&&_}
+use lib.ListN.{replicate}
+use lib.Dec.{eqb}
+use Rattle.lines.specs.Bodies.{lineCode}
+
+-- the bytes of a text
+unfoldable pub bytes : Text.String → List ℕ
+bytes Text.[] = []
+bytes (Text._∷_ c s) = code c ∷ bytes s
+
+pub record Example : Type 0 where
+  pub body : List ℕ
+  pub gives : ℕ
+
+abbrev pub example : List ℕ → ℕ → Example
+example b c = record { body = b; gives = c }
+
+unfoldable pub examples : List Example
+examples =
+    -- K5
+    example (bytes "A2147483647R") 0
+    ∷ example (bytes "A2147483648R") 3
+    -- "Reading digits into 32 bits and testing after: 4294967297 becomes 1"
+    ∷ example (bytes "A4294967297R") 3
+    -- K6, K7: "at most four open", "each `G` closes the nearest open `g`"
+    ∷ example (bytes "ggggP1G2G2G2G2R") 0
+    ∷ example (bytes "gggggP1G2G2G2G2G2R") 2
+    ∷ example (bytes "G1R") 2
+    ∷ example (bytes "gP1R") 2
+    -- K8: "`S` is neither last nor directly before `g` or `G`"
+    ∷ example (bytes "gS03G2R") 2
+    ∷ example (bytes "gA0S03e0G0R") 0
+    ∷ example (bytes "S03R") 2
+    -- K11
+    ∷ example (bytes "j3R") 3
+    ∷ example (bytes "L0R") 3
+    ∷ example (bytes "V0R") 3
+    -- "`H013` gives 3 and `g5` gives 2"
+    ∷ example (bytes "H013R") 3
+    ∷ example (bytes "g5R") 2
+    -- "then optionally one `R`"; "an `R`, `X` or `s` anywhere else is itself the misplaced letter"
+    ∷ example (bytes "A5") 0
+    ∷ example (bytes "RR") 2
+    ∷ example (bytes "A5RA6") 2
+    ∷ example (bytes "A5s3R") 2
+    ∷ example (bytes "XX") 2
+    -- "the first fault from the left", "then structure"
+    ∷ example (bytes "G1A2147483648R") 3
+    ∷ example (bytes "xA2147483648R") 2
+    -- "`s` and a slot 0 to 15", "0 to 14 commands and a required `R`"
+    ∷ example (bytes "s3R") 0
+    ∷ example (bytes "s16R") 3
+    ∷ example (bytes "s3A5") 2
+    ∷ example (bytes "s0z0z0z0z0z0z0z0z0z0z0z0z0z0z0R") 0
+    ∷ example (bytes "s0z0z0z0z0z0z0z0z0z0z0z0z0z0z0z0R") 2
+    -- "Immediate bodies"; "`R` alone", "`X` alone"; "an empty body acts as `Q`"
+    ∷ example (bytes "T5") 2
+    ∷ example (bytes "TR") 0
+    ∷ example (bytes "?1") 2
+    ∷ example (bytes "R") 0
+    ∷ example (bytes "X") 0
+    ∷ example [] 0
+    -- "the body has 0 to 256 bytes", "leading zeros allowed"
+    ∷ example (65 ∷ (replicate 254 48 ++ bytes "R")) 0
+    ∷ example (65 ∷ (replicate 255 48 ++ bytes "R")) 2
+    ∷ []
+
+-- each body gets its code
+unfoldable pub each : List Example → Bool
+each [] = true
+each (e ∷ es) = eqb (lineCode (e .body)) (e .gives) && each es

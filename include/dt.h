@@ -1,0 +1,98 @@
+/* The checks and the ramp figures of a DT drive, for firmware.
+ *
+ * Link libfirmware.a. Every function answers on every input and returns; none keeps or changes anything, calls the
+ * system or needs a heap, so each may be called from any task at any time.
+ *
+ * A slice is a pointer and a length in bytes. A slice of length 0 is empty: its pointer is not read and may be null.
+ * With a length above 0 a null pointer is forbidden, and all of the bytes must be readable. Slices may overlap: they
+ * are only read.
+ */
+#ifndef DT_H
+#define DT_H
+
+#include <stddef.h>
+#include <stdint.h>
+
+#ifdef __cplusplus
+extern "C" {
+#endif
+
+/* The code that an idle unit gives to the body of a frame. */
+#define DT_LINE_TAKEN 0u    /* the body is taken */
+#define DT_LINE_MISTAKE 2u  /* an unknown or misplaced letter, the structure, or over 256 bytes */
+#define DT_LINE_OPERAND 3u  /* an operand is missing or out of its range */
+
+/* Whether a text may be stored as a program. */
+#define DT_TEXT_GOOD 0u
+#define DT_TEXT_BAD 1u
+
+/* An image of the programs. */
+#define DT_IMAGE_GOOD 0u
+#define DT_IMAGE_LENGTH 1u  /* it has not 4160 bytes */
+#define DT_IMAGE_BAD 2u     /* an entry, a body or an unused byte breaks the rules */
+#define DT_IMAGE_BYTES 4160u
+
+/* The figures of a ramp, or the first number that is out of its range. */
+#define DT_RAMP_TAKEN 0u
+#define DT_RAMP_V 1u        /* V is not 1 to 16777216 */
+#define DT_RAMP_L 2u        /* L is not 1 to 65000 */
+#define DT_RAMP_N 3u        /* N of a finite move is not 1 to 2147483647 */
+
+/* The body of a frame, without its address and its CR: DT_LINE_.. */
+uint32_t dt_check_line(const uint8_t *body, size_t length);
+
+/* The text of a program, without `s`, slot and `R`: DT_TEXT_.. */
+uint32_t dt_check_text(const uint8_t *text, size_t length);
+
+/* The image of the sixteen programs: DT_IMAGE_.. */
+uint32_t dt_check_image(const uint8_t *image, size_t length);
+
+/* A move of n microsteps at top speed v (microsteps per second) and acceleration l (units of 6103.5 microsteps per
+ * second squared); where endless is not 0 the move has no end and n is not looked at. */
+
+/* DT_RAMP_..: whether the figures below stand. Where it is not DT_RAMP_TAKEN they are all 0. */
+uint32_t dt_ramp_check(uint32_t v, uint32_t l, uint32_t endless, uint32_t n);
+
+/* The greatest speed that the move reaches: at least 1, at most v. */
+uint32_t dt_ramp_peak(uint32_t v, uint32_t l, uint32_t endless, uint32_t n);
+
+/* The microsteps of the ramp up to the peak, rounded down; of an endless move they may pass 32 bits. */
+uint64_t dt_ramp_distance(uint32_t v, uint32_t l, uint32_t endless, uint32_t n);
+
+/* The peak, exactly, in microsteps per second. */
+double dt_ramp_speed(uint32_t v, uint32_t l, uint32_t endless, uint32_t n);
+
+/* l times 6103.5, exactly, in microsteps per second squared. */
+double dt_ramp_acceleration(uint32_t v, uint32_t l, uint32_t endless, uint32_t n);
+
+/* The seconds to the peak: speed over acceleration, rounded once; finite and above 0 where the figures stand. */
+double dt_ramp_time(uint32_t v, uint32_t l, uint32_t endless, uint32_t n);
+
+/* All figures of one ramp. */
+struct dt_ramp {
+    uint32_t check;
+    uint32_t peak;
+    uint64_t distance;
+    double speed;
+    double acceleration;
+    double time;
+};
+
+/* Gathers the figures. */
+static inline struct dt_ramp dt_ramp(uint32_t v, uint32_t l, uint32_t endless, uint32_t n)
+{
+    struct dt_ramp r;
+    r.check = dt_ramp_check(v, l, endless, n);
+    r.peak = dt_ramp_peak(v, l, endless, n);
+    r.distance = dt_ramp_distance(v, l, endless, n);
+    r.speed = dt_ramp_speed(v, l, endless, n);
+    r.acceleration = dt_ramp_acceleration(v, l, endless, n);
+    r.time = dt_ramp_time(v, l, endless, n);
+    return r;
+}
+
+#ifdef __cplusplus
+}
+#endif
+
+#endif

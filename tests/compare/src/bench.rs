@@ -1,0 +1,426 @@
+//! The tester's program over the model: one operation a line, one line of
+//! answer for each.
+
+use std::io::Write;
+
+use crate::host::{self, HostRefusal, Item};
+use crate::image;
+use crate::line;
+use crate::packet::{self, Packet};
+use crate::ramp::{self, Length, RampRefusal};
+use crate::turn::{Action, TurnRefusal};
+use crate::unit::{FeedRefusal, StartRefusal, Unit};
+
+/// Appends formatted text to bytes, which cannot fail.
+macro_rules! say {
+    ($out:expr, $($form:tt)*) => {{
+        let _ = write!($out, $($form)*);
+    }};
+}
+
+/// The longest image that can be lent.
+pub const LONGEST_IMAGE: usize = 4200;
+/// The longest answer buffer that can be lent.
+pub const LONGEST_ROOM: usize = 512;
+
+/// "It holds one image (at first: all slots empty), one unit (at first: none)
+/// and an answer buffer (at first 262 bytes)."
+#[derive(Clone, Debug)]
+pub struct Bench {
+    image: Vec<u8>,
+    unit: Option<Unit>,
+    buffer: [u8; LONGEST_ROOM],
+    room: usize,
+    /// Bytes of the operation at hand.
+    bytes: Vec<u8>,
+    /// List of the operation at hand.
+    list: Vec<Item>,
+}
+
+/// "A line that is none of these": it is answered `?` and changes nothing.
+struct Unreadable;
+
+type Answered = Result<(), Unreadable>;
+
+impl Bench {
+    /// The bench at its start.
+    pub fn new() -> Self {
+        Bench {
+            image: image::empty().to_vec(),
+            unit: None,
+            buffer: [0; LONGEST_ROOM],
+            room: packet::PACKET,
+            bytes: Vec::new(),
+            list: Vec::new(),
+        }
+    }
+
+    /// The unit that was started.
+    pub fn unit(&self) -> Option<&Unit> {
+        self.unit.as_ref()
+    }
+
+    /// The image that is lent.
+    pub fn image(&self) -> &[u8] {
+        &self.image
+    }
+
+    /// The bytes of the answer buffer that is lent.
+    pub fn room(&self) -> usize {
+        self.room
+    }
+
+    /// Does one operation, a line without its LF ("a CR before it is
+    /// dropped"), and appends its answer, without a line end.
+    pub fn answer(&mut self, operation: &[u8], out: &mut Vec<u8>) {
+        let operation = operation.strip_suffix(b"\r").unwrap_or(operation);
+        let begin = out.len();
+        if self.operate(operation, out).is_err() {
+            out.truncate(begin);
+            out.push(b'?');
+        }
+    }
+
+    fn operate(&mut self, operation: &[u8], out: &mut Vec<u8>) -> Answered {
+        if operation.starts_with(b"/") {
+            self.typed(operation, out);
+            return Ok(());
+        }
+        let (word, fields) = cut(operation);
+        match word {
+            b"image" => self.lend_image(only(fields)?, out),
+            b"room" => self.lend_room(only(fields)?, out),
+            b"start" => self.start(only(fields)?, out),
+            b"feed" => self.feed(only(fields)?, out),
+            b"turn" => self.turn(fields.ok_or(Unreadable)?, out),
+            b"unit" if fields.is_none() => {
+                self.tell_unit(out);
+                Ok(())
+            }
+            b"store" if fields.is_none() => {
+                out.extend(b"store ");
+                write_hex(&self.image, out);
+                Ok(())
+            }
+            b"line" => self.line(only(fields)?, out),
+            b"text" => self.text(only(fields)?, out),
+            b"ramp" => ramp(fields.ok_or(Unreadable)?, out),
+            b"write" => self.write(fields.ok_or(Unreadable)?, out),
+            b"read" => self.read(only(fields)?, out),
+            _ => Err(Unreadable),
+        }
+    }
+
+    fn lend_image(&mut self, field: &[u8], out: &mut Vec<u8>) -> Answered {
+        if field == b"empty" {
+            self.image = image::empty().to_vec();
+        } else {
+            read_hex(field, &mut self.bytes)?;
+            if self.bytes.len() > LONGEST_IMAGE {
+                return Err(Unreadable);
+            }
+            self.image.clear();
+            self.image.extend(&self.bytes);
+        }
+        say!(out, "image {}", self.image.len());
+        Ok(())
+    }
+
+    fn lend_room(&mut self, field: &[u8], out: &mut Vec<u8>) -> Answered {
+        let room = number(field)? as usize;
+        if room > LONGEST_ROOM {
+            return Err(Unreadable);
+        }
+        self.room = room;
+        say!(out, "room {room}");
+        Ok(())
+    }
+
+    fn start(&mut self, field: &[u8], out: &mut Vec<u8>) -> Answered {
+        let answer = match Unit::start(byte(field)?, &self.image) {
+            Ok(unit) => {
+                self.unit = Some(unit);
+                "started"
+            }
+            Err(StartRefusal::UnitNumber) => "refused unit-number",
+            Err(StartRefusal::ImageLength) => "refused image-length",
+            Err(StartRefusal::ImageBad) => "refused image-bad",
+        };
+        say!(out, "{answer}");
+        Ok(())
+    }
+
+    fn feed(&mut self, field: &[u8], out: &mut Vec<u8>) -> Answered {
+        read_hex(field, &mut self.bytes)?;
+        let Some(unit) = &mut self.unit else {
+            return no_unit(out);
+        };
+        match unit.feed(&self.bytes, &mut self.image, &mut self.buffer[..self.room]) {
+            Ok(fed) => {
+                say!(out, "fed {} ", fed.consumed);
+                write_hex(&self.buffer[..fed.answered], out);
+            }
+            Err(refusal) => say!(out, "{}", feed_refusal(refusal)),
+        }
+        Ok(())
+    }
+
+    /// "a line as a person types it: fed with a CR; the answer as text"
+    fn typed(&mut self, line: &[u8], out: &mut Vec<u8>) {
+        let Some(unit) = &mut self.unit else {
+            say!(out, "no unit");
+            return;
+        };
+        self.bytes.clear();
+        self.bytes.extend(line);
+        self.bytes.push(b'\r');
+        match unit.feed(&self.bytes, &mut self.image, &mut self.buffer[..self.room]) {
+            Ok(fed) => match packet::read(&self.buffer[..fed.answered]) {
+                Ok(packet) => tell_packet(packet, out),
+                Err(_) => out.push(b'-'),
+            },
+            Err(refusal) => say!(out, "{}", feed_refusal(refusal)),
+        }
+    }
+
+    fn turn(&mut self, fields: &[u8], out: &mut Vec<u8>) -> Answered {
+        let [sample, elapsed, steps] = three(fields)?;
+        let (sample, elapsed, steps) = (byte(sample)?, number(elapsed)?, number(steps)?);
+        let Some(unit) = &mut self.unit else {
+            return no_unit(out);
+        };
+        match unit.turn(&self.image, sample, elapsed, steps) {
+            Ok(Action::None) => say!(out, "act none"),
+            Ok(Action::Up(number)) => say!(out, "act up {number}"),
+            Ok(Action::Down(number)) => say!(out, "act down {number}"),
+            Err(TurnRefusal::ImageLength) => say!(out, "refused image-length"),
+            Err(TurnRefusal::Sample) => say!(out, "refused sample"),
+            Err(TurnRefusal::Steps) => say!(out, "refused steps"),
+        }
+        Ok(())
+    }
+
+    fn tell_unit(&self, out: &mut Vec<u8>) {
+        let Some(unit) = &self.unit else {
+            say!(out, "no unit");
+            return;
+        };
+        let (position, set) = (unit.position(), unit.settings());
+        let state = if unit.is_running() { "running" } else { "idle" };
+        say!(out, "unit {state} code={}", unit.code() as u8);
+        say!(out, " position={} known={}", position.number, u8::from(position.known));
+        say!(out, " V={} L={} j={} o={}", set.speed, set.slope, 1 << set.resolution, set.offset);
+        say!(out, " m={} h={}", set.move_current, set.hold_current);
+        say!(out, " f={} F={}", u8::from(set.flag_low), u8::from(set.turned));
+        say!(out, " J={} baud={} sample={} text=", set.outputs, set.baud, unit.sample());
+        write_hex(unit.text(), out);
+    }
+
+    fn line(&mut self, field: &[u8], out: &mut Vec<u8>) -> Answered {
+        read_hex(field, &mut self.bytes)?;
+        let code = line::check_idle(&self.bytes).map_or_else(|code| code as u8, |()| 0);
+        say!(out, "line {code}");
+        Ok(())
+    }
+
+    fn text(&mut self, field: &[u8], out: &mut Vec<u8>) -> Answered {
+        read_hex(field, &mut self.bytes)?;
+        let good = line::is_stored_text(&self.bytes);
+        say!(out, "text {}", if good { "ok" } else { "bad" });
+        Ok(())
+    }
+
+    fn read(&mut self, field: &[u8], out: &mut Vec<u8>) -> Answered {
+        read_hex(field, &mut self.bytes)?;
+        match packet::read(&self.bytes) {
+            Ok(Packet { status, data }) => {
+                say!(out, "packet {status:02x} ");
+                write_hex(data, out);
+            }
+            Err(_) => say!(out, "refused packet"),
+        }
+        Ok(())
+    }
+
+    fn write(&mut self, fields: &[u8], out: &mut Vec<u8>) -> Answered {
+        let (slot, rest) = cut(fields);
+        let slot = match slot {
+            b"-" => None,
+            slot => Some(number(slot)?),
+        };
+        let (run, list) = cut(rest.ok_or(Unreadable)?);
+        let run = match run {
+            b"R" => true,
+            b"-" => false,
+            _ => return Err(Unreadable),
+        };
+        read_list(list, &mut self.list)?;
+        match host::write(slot, &self.list, run, &mut self.buffer[..self.room]) {
+            Ok(length) => {
+                out.extend(b"wrote ");
+                write_hex(&self.buffer[..length], out);
+            }
+            Err(HostRefusal::Code(code)) => say!(out, "refused {}", code as u8),
+            Err(HostRefusal::Buffer) => say!(out, "refused buffer"),
+        }
+        Ok(())
+    }
+}
+
+impl Default for Bench {
+    fn default() -> Self {
+        Bench::new()
+    }
+}
+
+fn no_unit(out: &mut Vec<u8>) -> Answered {
+    say!(out, "no unit");
+    Ok(())
+}
+
+fn feed_refusal(refusal: FeedRefusal) -> &'static str {
+    match refusal {
+        FeedRefusal::Buffer => "refused buffer",
+        FeedRefusal::ImageLength => "refused image-length",
+    }
+}
+
+/// "`idle 0 1000`, `busy 15`"
+fn tell_packet(packet: Packet, out: &mut Vec<u8>) {
+    let state = if packet.is_idle() { "idle" } else { "busy" };
+    say!(out, "{state} {}", packet.code());
+    if !packet.data.is_empty() {
+        out.push(b' ');
+        out.extend(packet.data);
+    }
+}
+
+fn ramp(fields: &[u8], out: &mut Vec<u8>) -> Answered {
+    let [speed, slope, length] = three(fields)?;
+    let (speed, slope) = (number(speed)?, number(slope)?);
+    let length = match length {
+        b"endless" => Length::Endless,
+        steps => Length::Finite(number(steps)?),
+    };
+    match ramp::figures(speed, slope, length) {
+        Ok(found) => {
+            let bits = [found.ramp.speed, found.ramp.acceleration, found.ramp.time].map(f64::to_bits);
+            say!(out, "ramp {} {}", found.peak, found.distance);
+            say!(out, " {:016x} {:016x} {:016x}", bits[0], bits[1], bits[2]);
+        }
+        Err(RampRefusal::Speed) => say!(out, "refused V"),
+        Err(RampRefusal::Slope) => say!(out, "refused L"),
+        Err(RampRefusal::Length) => say!(out, "refused N"),
+    }
+    Ok(())
+}
+
+/// The first field and what comes after its space, if one does.
+fn cut(fields: &[u8]) -> (&[u8], Option<&[u8]>) {
+    match fields.iter().position(|&byte| byte == b' ') {
+        Some(space) => (&fields[..space], Some(&fields[space + 1..])),
+        None => (fields, None),
+    }
+}
+
+/// The one field that there is.
+fn only(fields: Option<&[u8]>) -> Result<&[u8], Unreadable> {
+    match fields {
+        Some(field) if !field.contains(&b' ') => Ok(field),
+        _ => Err(Unreadable),
+    }
+}
+
+/// The three fields that there are.
+fn three(fields: &[u8]) -> Result<[&[u8]; 3], Unreadable> {
+    let (first, rest) = cut(fields);
+    let (second, rest) = cut(rest.ok_or(Unreadable)?);
+    Ok([first, second, only(rest)?])
+}
+
+/// A decimal number up to 4294967295.
+fn number(field: &[u8]) -> Result<u32, Unreadable> {
+    if field.is_empty() {
+        return Err(Unreadable);
+    }
+    field.iter().try_fold(0u32, |sum, byte| {
+        let digit = byte.is_ascii_digit().then(|| u32::from(byte - b'0'));
+        let sum = sum.checked_mul(10).zip(digit).and_then(|(tens, digit)| tens.checked_add(digit));
+        sum.ok_or(Unreadable)
+    })
+}
+
+/// "SAMPLE and the unit's number": a number up to 255.
+fn byte(field: &[u8]) -> Result<u8, Unreadable> {
+    number(field)?.try_into().map_err(|_| Unreadable)
+}
+
+/// "LIST is nothing, or letter and operand parted by spaces".
+fn read_list(list: Option<&[u8]>, items: &mut Vec<Item>) -> Answered {
+    items.clear();
+    let mut rest = list;
+    while let Some(fields) = rest {
+        let (letter, after) = cut(fields);
+        let (operand, after) = cut(after.ok_or(Unreadable)?);
+        items.push(item(letter, operand)?);
+        rest = after;
+    }
+    Ok(())
+}
+
+/// "an operand is a number up to 4294967295, of `H` and `S` two digits, of `g`
+/// a `-`"
+fn item(letter: &[u8], operand: &[u8]) -> Result<Item, Unreadable> {
+    let &[letter] = letter else {
+        return Err(Unreadable);
+    };
+    let operand = match letter {
+        b'g' if operand == b"-" => 0,
+        b'g' => return Err(Unreadable),
+        b'H' | b'S' if operand.len() != 2 => return Err(Unreadable),
+        _ => number(operand)?,
+    };
+    Item::new(letter, operand).ok_or(Unreadable)
+}
+
+/// Bytes as "hex digits, either case, two a byte; no bytes is `-`".
+pub(crate) fn read_hex_field(field: &[u8]) -> Option<Vec<u8>> {
+    let mut bytes = Vec::new();
+    read_hex(field, &mut bytes).ok().map(|()| bytes)
+}
+
+fn read_hex(field: &[u8], bytes: &mut Vec<u8>) -> Answered {
+    bytes.clear();
+    if field == b"-" {
+        return Ok(());
+    }
+    let (pairs, odd) = field.as_chunks::<2>();
+    if pairs.is_empty() || !odd.is_empty() {
+        return Err(Unreadable);
+    }
+    for &[high, low] in pairs {
+        bytes.push(hex_digit(high)? << 4 | hex_digit(low)?);
+    }
+    Ok(())
+}
+
+fn hex_digit(byte: u8) -> Result<u8, Unreadable> {
+    match byte {
+        b'0'..=b'9' => Ok(byte - b'0'),
+        b'a'..=b'f' => Ok(byte - b'a' + 10),
+        b'A'..=b'F' => Ok(byte - b'A' + 10),
+        _ => Err(Unreadable),
+    }
+}
+
+/// Appends bytes as lower-case hex digits, or `-`.
+pub fn write_hex(bytes: &[u8], out: &mut Vec<u8>) {
+    const DIGITS: &[u8; 16] = b"0123456789abcdef";
+    if bytes.is_empty() {
+        out.push(b'-');
+    }
+    for byte in bytes {
+        out.push(DIGITS[usize::from(byte >> 4)]);
+        out.push(DIGITS[usize::from(byte & 15)]);
+    }
+}

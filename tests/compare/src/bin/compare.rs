@@ -1,0 +1,227 @@
+//! `compare PROGRAM [SEED] [OPERATIONS]`: runs a bench program and the model
+//! on the same random scripts and compares every line of answer.
+//!
+//! A disagreement is shrunk and printed. At the end stand the counts of each
+//! kind of answer and event; one that did not occur is a failure.
+
+use std::io::{Read, Write};
+use std::path::{Path, PathBuf};
+use std::process::{Command, ExitCode, Stdio};
+use std::sync::mpsc;
+use std::thread;
+use std::time::{Duration, Instant};
+
+use drive_model::bench::Bench;
+use drive_model::kinds::Counts;
+use drive_model::random::{Round, Step};
+use drive_model::shrink::{shrink, Script};
+
+const SEED: u64 = 1;
+const OPERATIONS: usize = 1_000_000;
+/// Operations of one process.
+const ROUND: usize = 10_000;
+/// How long a process may take with a round, and with a script.
+const PATIENCE: Duration = Duration::from_secs(60);
+const SHORT_PATIENCE: Duration = Duration::from_secs(5);
+/// How long a script may be made shorter.
+const SHRINKING: Duration = Duration::from_secs(60);
+/// How often the programs are run to make a script shorter.
+const TRIES: usize = 3000;
+
+struct Wanted {
+    program: PathBuf,
+    seed: u64,
+    operations: usize,
+}
+
+fn main() -> ExitCode {
+    let Some(wanted) = wanted() else {
+        eprintln!("usage: compare PROGRAM [SEED] [OPERATIONS]");
+        return ExitCode::from(2);
+    };
+    let mut counts = Counts::new();
+    let mut passed = 0;
+    for number in 0.. {
+        let size = ROUND.min(wanted.operations - passed);
+        if size == 0 {
+            break;
+        }
+        let seed = wanted.seed.wrapping_mul(0x1_0000_0001).wrapping_add(number);
+        let mut round = Round::new(seed);
+        let steps: Vec<Step> = (0..size).map(|_| round.step()).collect();
+        if let Some(place) = first_in_round(&wanted.program, &steps) {
+            println!("disagreement at operation {} (seed {})", passed + place + 1, wanted.seed);
+            show(&wanted.program, &steps[..=place]);
+            println!("{} passed, 1 failed", passed + place);
+            return ExitCode::FAILURE;
+        }
+        for step in steps {
+            counts.add(step.kind);
+            step.event.into_iter().for_each(|event| counts.add(event));
+        }
+        passed += size;
+    }
+    report(&counts, passed)
+}
+
+fn wanted() -> Option<Wanted> {
+    let mut arguments = std::env::args_os().skip(1);
+    let program = PathBuf::from(arguments.next()?);
+    let mut number = |default: u64| match arguments.next() {
+        None => Some(default),
+        Some(text) => text.to_str()?.parse().ok(),
+    };
+    let seed = number(SEED)?;
+    let operations = number(OPERATIONS as u64)?;
+    let operations = usize::try_from(operations).ok()?;
+    arguments.next().is_none().then_some(Wanted { program, seed, operations })
+}
+
+/// Prints the counts; fails where a kind is missing or has no name.
+fn report(counts: &Counts, passed: usize) -> ExitCode {
+    for (kind, count) in counts.iter() {
+        println!("{count:>9}  {kind}");
+    }
+    let faults = counts.faults();
+    for fault in &faults {
+        println!("{fault}");
+    }
+    println!("{passed} passed, {} failed", faults.len());
+    if faults.is_empty() {
+        ExitCode::SUCCESS
+    } else {
+        ExitCode::FAILURE
+    }
+}
+
+/// The place of the first disagreement of a round.
+fn first_in_round(program: &Path, steps: &[Step]) -> Option<usize> {
+    let operations: Vec<&[u8]> = steps.iter().map(|step| &step.operation[..]).collect();
+    let expected: Vec<&[u8]> = steps.iter().map(|step| &step.answer[..]).collect();
+    first_difference(&expected, &lines(&run(program, &operations, PATIENCE)))
+}
+
+/// The place of the first disagreement of a script that is run alone.
+fn first_of_script(program: &Path, script: &[Vec<u8>]) -> Option<usize> {
+    let operations: Vec<&[u8]> = script.iter().map(Vec::as_slice).collect();
+    let expected = answers(script);
+    let expected: Vec<&[u8]> = expected.iter().map(Vec::as_slice).collect();
+    first_difference(&expected, &lines(&run(program, &operations, SHORT_PATIENCE)))
+}
+
+/// The operations up to a disagreement, from the last place on from which
+/// nothing before matters; all of them if the disagreement does not show so.
+fn script_of(program: &Path, steps: &[Step]) -> Script {
+    let operations: Script = steps.iter().map(|step| step.operation.clone()).collect();
+    let begin = steps.iter().rposition(|step| step.begins).unwrap_or(0);
+    match first_of_script(program, &operations[begin..]) {
+        Some(_) => operations[begin..].to_vec(),
+        None => operations,
+    }
+}
+
+/// Shrinks the operations up to a disagreement and prints them with both
+/// answers.
+fn show(program: &Path, steps: &[Step]) {
+    let end = Instant::now() + SHRINKING;
+    let first =
+        |script: &[Vec<u8>]| (Instant::now() < end).then(|| first_of_script(program, script)).flatten();
+    let script = shrink(script_of(program, steps), TRIES, first);
+    let ours = answers(&script);
+    let operations: Vec<&[u8]> = script.iter().map(Vec::as_slice).collect();
+    let output = run(program, &operations, SHORT_PATIENCE);
+    let theirs = lines(&output);
+    println!("the script has {} operations:", script.len());
+    for (place, operation) in script.iter().enumerate() {
+        println!("    {}", operation.escape_ascii());
+        show_answers(&ours[place], theirs.get(place).copied());
+    }
+    for line in theirs.iter().skip(script.len()) {
+        println!("        program, too: {}", line.escape_ascii());
+    }
+}
+
+/// One answer where both are the same, else both, from a little before the
+/// first difference on.
+fn show_answers(ours: &[u8], theirs: Option<&[u8]>) {
+    let Some(theirs) = theirs else {
+        println!("        model:   {}", excerpt(ours, 0));
+        println!("        program: (no answer)");
+        return;
+    };
+    if ours == theirs {
+        println!("        both:    {}", excerpt(ours, 0));
+        return;
+    }
+    let same = ours.iter().zip(theirs).take_while(|(ours, theirs)| ours == theirs).count();
+    println!("        model:   {}", excerpt(ours, same));
+    println!("        program: {}", excerpt(theirs, same));
+}
+
+/// A line as it is, or the part of a long one about a place.
+fn excerpt(line: &[u8], place: usize) -> String {
+    const MOST: usize = 400;
+    if line.len() <= MOST {
+        return line.escape_ascii().to_string();
+    }
+    let begin = place.saturating_sub(MOST / 4).min(line.len());
+    let part = &line[begin..line.len().min(begin + MOST)];
+    format!("(from byte {begin} of {}) {}", line.len(), part.escape_ascii())
+}
+
+/// The model's answers.
+fn answers(script: &[Vec<u8>]) -> Script {
+    let mut bench = Bench::new();
+    let answer = |operation: &Vec<u8>| {
+        let mut answer = Vec::new();
+        bench.answer(operation, &mut answer);
+        answer
+    };
+    script.iter().map(answer).collect()
+}
+
+/// The first place where the answers are not the same; lines too many count
+/// for the last place.
+fn first_difference(expected: &[&[u8]], found: &[&[u8]]) -> Option<usize> {
+    let differs = |place: &usize| found.get(*place) != Some(&expected[*place]);
+    let more = (found.len() > expected.len()).then(|| expected.len().checked_sub(1)).flatten();
+    (0..expected.len()).find(differs).or(more)
+}
+
+/// The lines of an output.
+fn lines(output: &[u8]) -> Vec<&[u8]> {
+    let mut lines: Vec<&[u8]> = output.split(|&byte| byte == b'\n').collect();
+    if lines.last().is_some_and(|last| last.is_empty()) {
+        lines.pop();
+    }
+    lines
+}
+
+/// What the program writes for these operations. One that takes too long is
+/// ended, and a line says so after what it wrote.
+fn run(program: &Path, operations: &[&[u8]], patience: Duration) -> Vec<u8> {
+    let child =
+        Command::new(program).stdin(Stdio::piped()).stdout(Stdio::piped()).stderr(Stdio::null()).spawn();
+    let mut child = child.unwrap_or_else(|error| {
+        eprintln!("{}: {error}", program.display());
+        std::process::exit(2)
+    });
+    let mut input = operations.join(&b'\n');
+    input.push(b'\n');
+    let stdin = child.stdin.take();
+    let stdout = child.stdout.take();
+    let (sender, receiver) = mpsc::channel();
+    let writer = thread::spawn(move || stdin.map(|mut stdin| stdin.write_all(&input)));
+    let reader = thread::spawn(move || {
+        let mut output = Vec::new();
+        let _ = stdout.map(|mut stdout| stdout.read_to_end(&mut output));
+        let _ = sender.send(output);
+    });
+    let output = receiver.recv_timeout(patience).unwrap_or_else(|_| {
+        let _ = child.kill();
+        let written = receiver.recv().unwrap_or_default();
+        [&written[..], b"\n(does not end)\n"].concat()
+    });
+    let _ = (writer.join(), reader.join(), child.wait());
+    output
+}

@@ -1,0 +1,481 @@
+//! The kinds of answers and of events, so that a comparison can say that all
+//! of them occurred.
+
+use std::collections::BTreeMap;
+
+use crate::bench::Bench;
+use crate::turn::{Leg, Wait};
+use crate::unit::Unit;
+use crate::Code;
+
+/// Every kind that [`of_answer`] names, but those of `?`.
+const ANSWERS: &[&str] = &[
+    "image: 4160 bytes",
+    "image: another length",
+    "room: enough",
+    "room: too short",
+    "start: started",
+    "start: refused unit-number",
+    "start: refused image-length",
+    "start: refused image-bad",
+    "feed: no unit",
+    "feed: refused buffer",
+    "feed: refused image-length",
+    "feed: all consumed, no answer",
+    "feed: part consumed, no answer",
+    "feed: idle 0",
+    "feed: idle 0 with data",
+    "feed: idle 1",
+    "feed: idle 1 with data",
+    "feed: idle 2",
+    "feed: idle 3",
+    "feed: idle 7",
+    "feed: idle 7 with data",
+    "feed: idle 11",
+    "feed: idle 11 with data",
+    "feed: busy 0",
+    "feed: busy 0 with data",
+    "feed: busy 2",
+    "feed: busy 15",
+    "typed: no unit",
+    "typed: refused buffer",
+    "typed: refused image-length",
+    "typed: -",
+    "typed: idle 0",
+    "typed: idle 0 with data",
+    "typed: idle 1",
+    "typed: idle 1 with data",
+    "typed: idle 2",
+    "typed: idle 3",
+    "typed: idle 7",
+    "typed: idle 7 with data",
+    "typed: idle 11",
+    "typed: idle 11 with data",
+    "typed: busy 0",
+    "typed: busy 0 with data",
+    "typed: busy 2",
+    "typed: busy 15",
+    "turn: no unit",
+    "turn: refused image-length",
+    "turn: refused sample",
+    "turn: refused steps",
+    "turn: act none",
+    "turn: act up",
+    "turn: act down",
+    "unit: no unit",
+    "unit: idle",
+    "unit: running",
+    "store: 4160 bytes",
+    "store: another length",
+    "line: 0",
+    "line: 2",
+    "line: 3",
+    "text: ok",
+    "text: bad",
+    "ramp: finite",
+    "ramp: endless",
+    "ramp: refused V",
+    "ramp: refused L",
+    "ramp: refused N",
+    "write: wrote",
+    "write: wrote nothing",
+    "write: refused 2",
+    "write: refused 3",
+    "write: refused buffer",
+    "read: packet",
+    "read: packet with data",
+    "read: refused packet",
+];
+
+/// The words of the operations; each can be unreadable.
+const WORDS: &[&str] = &[
+    "image", "room", "start", "feed", "turn", "unit", "store", "line", "text", "ramp", "write", "read",
+    "other",
+];
+
+/// Every kind that [`of_event`] names.
+const EVENTS: &[&str] = &[
+    "start: idle",
+    "start: program 0 runs",
+    "frame: a run starts",
+    "frame: a line is loaded",
+    "frame: the image changes",
+    "frame: R ends a wait at H",
+    "frame: T ends a run",
+    "frame: T ends a move",
+    "frame: T ends a homing",
+    "turn: idle",
+    "turn: end of text",
+    "turn: end of an empty text",
+    "A: a move",
+    "A: at once",
+    "A: stops with 7",
+    "P: a move",
+    "P: an endless move",
+    "P: stops with 7",
+    "P: stops with 11",
+    "D: a move",
+    "D: an endless move",
+    "D: stops with 7",
+    "D: stops with 11",
+    "Z: leg away",
+    "Z: leg toward",
+    "z: at once",
+    "V: at once",
+    "L: at once",
+    "f: at once",
+    "F: at once",
+    "m: at once",
+    "h: at once",
+    "j: at once",
+    "o: at once",
+    "J: at once",
+    "b: at once",
+    "M: at once",
+    "M: a delay",
+    "g: at once",
+    "G: goes back",
+    "G: goes on",
+    "H: at once",
+    "H: an input",
+    "S: skips",
+    "S: does not skip",
+    "e: a text",
+    "e: an empty text",
+    "e: stops with 1",
+    "move: goes on",
+    "move: ends",
+    "endless: goes on",
+    "endless: ends",
+    "endless: stops with 11",
+    "leg away: goes on",
+    "leg away: leg toward",
+    "leg away: stops with 1",
+    "leg toward: goes on",
+    "leg toward: ends",
+    "leg toward: stops with 1",
+    "delay: goes on",
+    "delay: ends",
+    "input: goes on",
+    "input: ends",
+];
+
+/// The names of all kinds.
+pub fn all() -> Vec<String> {
+    let unreadable = WORDS.iter().map(|word| format!("{word}: ?"));
+    let answers = ANSWERS.iter().map(|name| name.to_string());
+    let events = EVENTS.iter().map(|name| format!("event: {name}"));
+    answers.chain(unreadable).chain(events).collect()
+}
+
+/// The kind of an operation and its answer, as [`all`] names it.
+pub fn of_answer(operation: &[u8], answer: &[u8]) -> String {
+    let operation = operation.strip_suffix(b"\r").unwrap_or(operation);
+    let operation = String::from_utf8_lossy(operation);
+    let answer = String::from_utf8_lossy(answer);
+    let word = match operation.split(' ').next() {
+        _ if operation.starts_with('/') => "typed",
+        Some(word) if WORDS.contains(&word) => word,
+        _ => "other",
+    };
+    format!("{word}: {}", short(word, &operation, &answer))
+}
+
+/// The answer without what varies in it.
+fn short(word: &str, operation: &str, answer: &str) -> String {
+    let fields: Vec<&str> = answer.split(' ').collect();
+    match (word, &fields[..]) {
+        ("feed", ["fed", consumed, "-"]) => {
+            let all = consumed.parse() == Ok(fed_bytes(operation));
+            format!("{} consumed, no answer", if all { "all" } else { "part" })
+        }
+        ("feed", ["fed", _, packet]) => packet_kind(packet),
+        ("typed", [state @ ("idle" | "busy"), code]) => format!("{state} {code}"),
+        ("typed", [state @ ("idle" | "busy"), code, ..]) => format!("{state} {code} with data"),
+        ("image" | "store", [_, content]) => {
+            let good = *content == "4160" || content.len() == 2 * 4160;
+            if good { "4160 bytes" } else { "another length" }.to_string()
+        }
+        ("room", ["room", room]) => {
+            let enough = room.parse().is_ok_and(|room: u32| room >= 262);
+            if enough { "enough" } else { "too short" }.to_string()
+        }
+        ("turn", ["act", way, ..]) => format!("act {way}"),
+        ("unit", ["unit", state, ..]) => state.to_string(),
+        ("line" | "text", [_, judged]) => judged.to_string(),
+        ("ramp", ["ramp", ..]) => {
+            if operation.ends_with("endless") { "endless" } else { "finite" }.to_string()
+        }
+        ("write", ["wrote", "-"]) => "wrote nothing".to_string(),
+        ("write", ["wrote", _]) => "wrote".to_string(),
+        ("read", ["packet", _, "-"]) => "packet".to_string(),
+        ("read", ["packet", ..]) => "packet with data".to_string(),
+        _ => answer.to_string(),
+    }
+}
+
+/// How many bytes a readable feed has.
+fn fed_bytes(operation: &str) -> usize {
+    match operation.strip_prefix("feed ") {
+        None | Some("-") => 0,
+        Some(hex) => hex.len() / 2,
+    }
+}
+
+/// The state, the code and whether there is data, of a packet in hex.
+fn packet_kind(hex: &str) -> String {
+    let status = hex.get(4..6).and_then(|digits| u8::from_str_radix(digits, 16).ok()).unwrap_or(0);
+    let state = if status & 0x20 != 0 { "idle" } else { "busy" };
+    let data = if hex.len() > 12 { " with data" } else { "" };
+    format!("{state} {}{data}", status & 15)
+}
+
+/// What a unit is at.
+#[derive(Clone, Copy, Debug, PartialEq, Eq)]
+enum Phase {
+    Idle,
+    /// The next turn takes a command of this letter.
+    Command(u8),
+    /// The next turn ends the run.
+    End,
+    Move,
+    Endless,
+    Away,
+    Toward,
+    Delay,
+    Input,
+}
+
+impl Phase {
+    fn of(unit: &Unit) -> Phase {
+        match unit.wait {
+            _ if !unit.running => Phase::Idle,
+            Wait::Nothing => match unit.text.command(unit.next) {
+                Some(command) => Phase::Command(command.letter()),
+                None => Phase::End,
+            },
+            Wait::Move(on) if on.is_endless() => Phase::Endless,
+            Wait::Move(_) => Phase::Move,
+            Wait::Home(Leg::Away { .. }) => Phase::Away,
+            Wait::Home(Leg::Toward { .. }) => Phase::Toward,
+            Wait::Delay(_) => Phase::Delay,
+            Wait::Input(_) => Phase::Input,
+        }
+    }
+
+    /// What a wait is called before a turn.
+    fn waiting(self) -> &'static str {
+        match self {
+            Phase::Move => "move",
+            Phase::Endless => "endless",
+            Phase::Away => "leg away",
+            Phase::Toward => "leg toward",
+            Phase::Delay => "delay",
+            Phase::Input => "input",
+            Phase::Idle | Phase::Command(_) | Phase::End => "turn",
+        }
+    }
+
+    /// What a wait is called that a turn began.
+    fn begun(self) -> Option<&'static str> {
+        Some(match self {
+            Phase::Move => "a move",
+            Phase::Endless => "an endless move",
+            Phase::Away => "leg away",
+            Phase::Toward => "leg toward",
+            Phase::Delay => "a delay",
+            Phase::Input => "an input",
+            Phase::Idle | Phase::Command(_) | Phase::End => return None,
+        })
+    }
+}
+
+/// What is looked at before and after an operation.
+#[derive(Clone, Copy, Debug, PartialEq, Eq)]
+pub struct Glance {
+    phase: Phase,
+    next: usize,
+    code: Code,
+    loaded: bool,
+    text_length: usize,
+    image: u64,
+}
+
+impl Glance {
+    /// A glance at the bench, if it has a unit.
+    pub fn at(bench: &Bench) -> Option<Glance> {
+        let unit = bench.unit()?;
+        Some(Glance {
+            phase: Phase::of(unit),
+            next: unit.next,
+            code: unit.code,
+            loaded: unit.loaded,
+            text_length: unit.text().len(),
+            image: weigh(bench.image()),
+        })
+    }
+}
+
+/// A number that changes with the image.
+fn weigh(image: &[u8]) -> u64 {
+    let (eights, rest) = image.as_chunks::<8>();
+    let add = |sum: u64, eight: &[u8; 8]| sum.rotate_left(5) ^ u64::from_le_bytes(*eight);
+    rest.iter().fold(eights.iter().fold(0, add), |sum, &byte| sum.rotate_left(5) ^ u64::from(byte))
+}
+
+/// The kind of what an operation did to the unit, as [`all`] names it.
+pub fn of_event(
+    operation: &[u8],
+    answer: &[u8],
+    before: Option<Glance>,
+    after: Option<Glance>,
+) -> Option<String> {
+    let after = after?;
+    let event = if answer == b"started" {
+        match after.phase {
+            Phase::Idle => "start: idle".to_string(),
+            _ => "start: program 0 runs".to_string(),
+        }
+    } else if answer.starts_with(b"act ") {
+        of_turn(before?, after)
+    } else if operation.starts_with(b"feed") || operation.starts_with(b"/") {
+        of_frame(before?, after)?.to_string()
+    } else {
+        return None;
+    };
+    Some(format!("event: {event}"))
+}
+
+fn of_frame(before: Glance, after: Glance) -> Option<&'static str> {
+    Some(match (before.phase, after.phase) {
+        _ if before.image != after.image => "frame: the image changes",
+        (Phase::Idle, Phase::Idle) if before.loaded == after.loaded => return None,
+        (Phase::Idle, Phase::Idle) => "frame: a line is loaded",
+        (Phase::Idle, _) => "frame: a run starts",
+        (Phase::Away | Phase::Toward, Phase::Idle) => "frame: T ends a homing",
+        (Phase::Move | Phase::Endless, Phase::Idle) => "frame: T ends a move",
+        (_, Phase::Idle) => "frame: T ends a run",
+        (Phase::Input, Phase::Command(_) | Phase::End) => "frame: R ends a wait at H",
+        _ => return None,
+    })
+}
+
+fn of_turn(before: Glance, after: Glance) -> String {
+    match before.phase {
+        Phase::Idle => "turn: idle".to_string(),
+        Phase::End if before.text_length == 0 => "turn: end of an empty text".to_string(),
+        Phase::End => "turn: end of text".to_string(),
+        Phase::Command(letter) => format!("{}: {}", letter as char, of_command(letter, before, after)),
+        wait => format!("{}: {}", wait.waiting(), of_wait(before, after)),
+    }
+}
+
+fn of_command(letter: u8, before: Glance, after: Glance) -> String {
+    match letter {
+        _ if after.phase == Phase::Idle => format!("stops with {}", after.code as u8),
+        b'G' if after.next <= before.next => "goes back".to_string(),
+        b'G' => "goes on".to_string(),
+        b'S' if after.next == before.next + 2 => "skips".to_string(),
+        b'S' => "does not skip".to_string(),
+        b'e' if after.text_length == 0 => "an empty text".to_string(),
+        b'e' => "a text".to_string(),
+        _ => after.phase.begun().unwrap_or("at once").to_string(),
+    }
+}
+
+fn of_wait(before: Glance, after: Glance) -> String {
+    match after.phase {
+        Phase::Idle => format!("stops with {}", after.code as u8),
+        same if same == before.phase => "goes on".to_string(),
+        other => other.begun().unwrap_or("ends").to_string(),
+    }
+}
+
+/// How often each kind occurred.
+#[derive(Clone, Debug)]
+pub struct Counts(BTreeMap<String, u64>);
+
+impl Counts {
+    /// All kinds, none of them seen.
+    pub fn new() -> Self {
+        Counts(all().into_iter().map(|kind| (kind, 0)).collect())
+    }
+
+    /// Counts one of a kind.
+    pub fn add(&mut self, kind: String) {
+        *self.0.entry(kind).or_default() += 1;
+    }
+
+    /// The kinds and their counts, by name.
+    pub fn iter(&self) -> impl Iterator<Item = (&str, u64)> {
+        self.0.iter().map(|(kind, &count)| (kind.as_str(), count))
+    }
+
+    /// The kinds that did not occur, and those that occurred without being in
+    /// the list.
+    pub fn faults(&self) -> Vec<String> {
+        let listed = all();
+        let missing =
+            listed.iter().filter(|kind| self.0[*kind] == 0).map(|kind| format!("{kind} did not occur"));
+        let strange =
+            self.0.keys().filter(|kind| !listed.contains(kind)).map(|kind| format!("{kind} is no kind"));
+        missing.chain(strange).collect()
+    }
+}
+
+impl Default for Counts {
+    fn default() -> Self {
+        Counts::new()
+    }
+}
+
+#[cfg(test)]
+mod tests {
+    use super::*;
+
+    #[test]
+    fn names_are_of_the_list_and_differ() {
+        let all = all();
+        for (place, kind) in all.iter().enumerate() {
+            assert!(!all[..place].contains(kind), "{kind}");
+        }
+    }
+
+    #[test]
+    fn answers() {
+        for (operation, answer, kind) in [
+            ("feed 2f31", "fed 2 -", "feed: all consumed, no answer"),
+            ("feed -", "fed 0 -", "feed: all consumed, no answer"),
+            ("feed 2f5f0d00", "fed 3 -", "feed: part consumed, no answer"),
+            ("feed 2f310d", "fed 3 2f3060030d0a", "feed: idle 0"),
+            ("feed 2f310d\r", "fed 3 2f304f030d0a", "feed: busy 15"),
+            ("feed 2f310d", "fed 3 2f306b30030d0a", "feed: idle 11 with data"),
+            ("/1?0", "idle 0 12", "typed: idle 0 with data"),
+            ("/1?0", "busy 2", "typed: busy 2"),
+            ("/2?0", "-", "typed: -"),
+            ("turn 1 1 1", "act up 5", "turn: act up"),
+            ("turn 256 1 1", "?", "turn: ?"),
+            ("", "?", "other: ?"),
+            ("room 261", "room 261", "room: too short"),
+            ("image -", "image 0", "image: another length"),
+            ("ramp 1 1 endless", "ramp 1 0 0 0 0", "ramp: endless"),
+            ("write - -", "wrote -", "write: wrote nothing"),
+            ("read -", "refused packet", "read: refused packet"),
+            ("unit", "unit idle code=0", "unit: idle"),
+        ] {
+            let found = of_answer(operation.as_bytes(), answer.as_bytes());
+            assert_eq!(found, kind);
+            assert!(all().contains(&found), "{found}");
+        }
+    }
+
+    #[test]
+    fn missing_and_strange_kinds() {
+        let mut counts = Counts::new();
+        assert_eq!(counts.faults().len(), all().len());
+        all().into_iter().for_each(|kind| counts.add(kind));
+        assert!(counts.faults().is_empty());
+        counts.add("feed: busy 1".to_string());
+        assert_eq!(counts.faults(), ["feed: busy 1 is no kind"]);
+    }
+}

@@ -1,0 +1,48 @@
+//! One drive's side of the DT protocol, and the host's side, written from
+//! paper 01 ("The work covered and the rules it follows") alone.
+//!
+//! The words in quotes in the comments are the paper's. The model is the
+//! judge in a comparison: [`bench`] speaks the tester's language over it,
+//! [`random`] writes scripts in that language, [`kinds`] names what came
+//! back, [`shrink`] makes a disagreement short.
+
+pub mod address;
+pub mod command;
+pub mod decimal;
+pub mod host;
+pub mod image;
+pub mod line;
+pub mod packet;
+pub mod ramp;
+pub mod receiver;
+pub mod text;
+pub mod turn;
+pub mod unit;
+
+pub mod bench;
+pub mod kinds;
+pub mod random;
+pub mod shrink;
+
+/// "The body has 0 to 256 bytes."
+pub const BODY: usize = 256;
+
+/// The low four bits of a status.
+#[derive(Clone, Copy, Debug, PartialEq, Eq)]
+#[repr(u8)]
+pub enum Code {
+    /// No fault.
+    Clear = 0,
+    /// "flag not found within a leg", or `e` to a bad slot.
+    NotFound = 1,
+    /// "unknown or misplaced letter", and all faults of a line's structure.
+    Letter = 2,
+    /// "operand missing or out of range".
+    Operand = 3,
+    /// "`A P D` with position unknown".
+    Unknown = 7,
+    /// A move that leaves the range.
+    Range = 11,
+    /// "running, and not immediate nor a resuming `R`".
+    Busy = 15,
+}

@@ -1,0 +1,310 @@
+//! The line check: what a body asks for, and whether it is taken.
+
+use crate::command::{self, Command, Fault};
+use crate::{Code, BODY};
+
+/// "such a line" stores "0 to 14 commands".
+pub const STORED_COMMANDS: usize = 14;
+
+/// "at most four open"
+pub const OPEN_LOOPS: usize = 4;
+
+/// What the check must know of the drive.
+#[derive(Clone, Copy, Debug, PartialEq, Eq)]
+pub enum Drive {
+    /// No run.
+    Idle,
+    /// In a run that does not wait at `H`.
+    Running,
+    /// In a run that waits at `H`.
+    AtInput,
+}
+
+/// A body that is taken.
+#[derive(Clone, Copy, Debug, PartialEq, Eq)]
+pub enum Body<'a> {
+    /// "Immediate bodies" and the empty one.
+    Immediate(Immediate),
+    /// `R` alone.
+    Go,
+    /// `X` alone.
+    Again,
+    /// Commands, or a slot and its text.
+    Line(Line<'a>),
+}
+
+/// "`T`, `TR`, `Q`, `$`, `?0 ?2 ?4 ?6 ?7 ?9`"
+#[derive(Clone, Copy, Debug, PartialEq, Eq)]
+pub enum Immediate {
+    /// `T`, `TR`
+    Stop,
+    /// `Q`; "An empty body acts as `Q`".
+    Status,
+    /// `$`
+    Text,
+    /// `?0`
+    Position,
+    /// `?2`
+    Speed,
+    /// `?4`
+    Sample,
+    /// `?6`
+    Resolution,
+    /// `?7`
+    Offset,
+    /// `?9`
+    ClearAll,
+}
+
+/// "A line is commands, then optionally one `R`", or a slot, "then 0 to 14
+/// commands and a required `R`".
+#[derive(Clone, Copy, Debug, PartialEq, Eq)]
+pub struct Line<'a> {
+    /// The slot that the text is stored in.
+    pub slot: Option<u8>,
+    /// The commands as typed.
+    pub text: &'a [u8],
+    /// Whether an `R` ends the line.
+    pub run: bool,
+}
+
+/// "Order of checks for a frame".
+pub fn check(body: &[u8], drive: Drive) -> Result<Body<'_>, Code> {
+    if body.len() > BODY {
+        return Err(Code::Letter);
+    }
+    if let [] | [b'T' | b'Q' | b'$' | b'?', ..] = body {
+        return immediate(body).map(Body::Immediate).ok_or(Code::Letter);
+    }
+    let resumes = body == b"R" && drive == Drive::AtInput;
+    if drive != Drive::Idle && !resumes {
+        return Err(Code::Busy);
+    }
+    match body {
+        b"R" => Ok(Body::Go),
+        b"X" => Ok(Body::Again),
+        _ => read(body).map(Body::Line),
+    }
+}
+
+/// The body "as an idle unit judges it".
+pub fn check_idle(body: &[u8]) -> Result<(), Code> {
+    check(body, Drive::Idle).map(drop)
+}
+
+fn immediate(body: &[u8]) -> Option<Immediate> {
+    Some(match body {
+        b"T" | b"TR" => Immediate::Stop,
+        b"Q" | b"" => Immediate::Status,
+        b"$" => Immediate::Text,
+        b"?0" => Immediate::Position,
+        b"?2" => Immediate::Speed,
+        b"?4" => Immediate::Sample,
+        b"?6" => Immediate::Resolution,
+        b"?7" => Immediate::Offset,
+        b"?9" => Immediate::ClearAll,
+        _ => return None,
+    })
+}
+
+/// Reads a line: "the first fault from the left [..]; then structure, missing
+/// `R` after `s`, or more than 14 stored (2)".
+fn read(body: &[u8]) -> Result<Line<'_>, Code> {
+    let (slot, commands) = read_slot(body)?;
+    let mut structure = Structure::default();
+    let mut rest = commands;
+    while !rest.is_empty() && rest != b"R" {
+        let (command, after) = command::read(rest)?;
+        structure.add(command);
+        rest = after;
+    }
+    let run = !rest.is_empty();
+    let stores = slot.is_none() || (run && structure.count <= STORED_COMMANDS);
+    if !structure.is_sound() || !stores {
+        return Err(Code::Letter);
+    }
+    let text = &commands[..commands.len() - rest.len()];
+    Ok(Line { slot, text, run })
+}
+
+/// "`s` and a slot 0 to 15 come only first".
+fn read_slot(body: &[u8]) -> Result<(Option<u8>, &[u8]), Fault> {
+    let [b's', after @ ..] = body else {
+        return Ok((None, body));
+    };
+    let (digits, rest) = command::split_digits(after);
+    Ok((Some(command::slot(digits)?), rest))
+}
+
+/// "the check for stored text": commands alone, 14 of them and 256 bytes at
+/// most, of good structure.
+pub fn is_stored_text(text: &[u8]) -> bool {
+    if text.len() > BODY {
+        return false;
+    }
+    let mut structure = Structure::default();
+    let mut rest = text;
+    while !rest.is_empty() {
+        let Ok((command, after)) = command::read(rest) else {
+            return false;
+        };
+        structure.add(command);
+        rest = after;
+    }
+    structure.is_sound() && structure.count <= STORED_COMMANDS
+}
+
+/// "Structure: each `G` closes the nearest open `g`, all closed at the end, at
+/// most four open; `S` is neither last nor directly before `g` or `G` (house)."
+#[derive(Clone, Copy, Debug, Default)]
+struct Structure {
+    count: usize,
+    open: usize,
+    after_skip: bool,
+    broken: bool,
+}
+
+impl Structure {
+    fn add(&mut self, command: Command) {
+        self.count += 1;
+        match command {
+            Command::Open => {
+                self.open += 1;
+                self.broken |= self.after_skip || self.open > OPEN_LOOPS;
+            }
+            Command::Close(_) => {
+                self.broken |= self.after_skip || self.open == 0;
+                self.open = self.open.saturating_sub(1);
+            }
+            _ => {}
+        }
+        self.after_skip = matches!(command, Command::Skip(_));
+    }
+
+    fn is_sound(&self) -> bool {
+        !self.broken && self.open == 0 && !self.after_skip
+    }
+}
+
+#[cfg(test)]
+mod tests {
+    use super::*;
+
+    #[track_caller]
+    fn judged(body: &str, drive: Drive, code: u8) {
+        let found = check(body.as_bytes(), drive).map_or_else(|code| code as u8, |_| 0);
+        assert_eq!(found, code, "{body} {drive:?}");
+    }
+
+    #[track_caller]
+    fn idle(body: &str, code: u8) {
+        judged(body, Drive::Idle, code);
+    }
+
+    #[test]
+    fn immediate_bodies() {
+        for body in ["", "T", "TR", "Q", "$", "?0", "?2", "?4", "?6", "?7", "?9"] {
+            for drive in [Drive::Idle, Drive::Running, Drive::AtInput] {
+                judged(body, drive, 0);
+            }
+        }
+        for body in ["TT", "TRR", "T1", "QR", "QA", "$R", "?", "?1", "?3", "?5", "?8", "?00", "?9R"] {
+            for drive in [Drive::Idle, Drive::Running, Drive::AtInput] {
+                judged(body, drive, 2);
+            }
+        }
+    }
+
+    #[test]
+    fn while_running() {
+        for body in ["X", "A5R", "A5", "s0R", "zzz", "A", "s", "\n", "RR", "g"] {
+            judged(body, Drive::Running, 15);
+            judged(body, Drive::AtInput, 15);
+        }
+        judged("R", Drive::Running, 15);
+        judged("R", Drive::AtInput, 0);
+        judged(&"A".repeat(257), Drive::Running, 2);
+        judged(&"A".repeat(256), Drive::Running, 15);
+    }
+
+    #[test]
+    fn letters_in_and_out_of_place() {
+        for body in ["R", "X", "A5", "A5R", "s0R", "s15A5R", "s03A5R", "gG", "H", "HR"] {
+            idle(body, 0);
+        }
+        for body in
+            ["RR", "XR", "RX", "XX", "A5X", "A5XR", "A5RR", "RA5", "A5s1R", "s1s1R", "A5RA", "sR5", "a"]
+        {
+            idle(body, if body == "sR5" { 3 } else { 2 });
+        }
+    }
+
+    #[test]
+    fn the_first_fault_from_the_left() {
+        idle("AXR", 3);
+        idle("XA", 2);
+        idle("A5RA", 2);
+        idle("AqR", 3);
+        idle("qA", 2);
+        idle("g5A", 2);
+        idle("G1A", 3);
+        idle("gggggA", 3);
+        idle("s16q", 3);
+        idle("s5A", 3);
+        idle("S03A", 3);
+        idle("s", 3);
+        idle("s16R", 3);
+        idle("s4294967297R", 3);
+    }
+
+    #[test]
+    fn structure() {
+        for body in ["ggggGGGG", "gGgGgGgGgG", "gggGgGgGGgGG", "S01S02A0", "gA0S03e0G0", "S01H"] {
+            idle(body, 0);
+        }
+        for body in ["g", "G", "gGG", "Gg", "ggG", "gggggGGGGG", "S01", "S01R", "S01gG", "gS01G", "A0S11"] {
+            idle(body, 2);
+        }
+    }
+
+    #[test]
+    fn stored_lines() {
+        let fourteen = "H".repeat(14);
+        idle(&format!("s0{fourteen}R"), 0);
+        idle(&format!("s0{fourteen}HR"), 2);
+        idle(&format!("s0{fourteen}HA"), 3);
+        idle(&format!("{fourteen}HR"), 0);
+        idle("s0", 2);
+        idle("s0A5", 2);
+        idle("s0gR", 2);
+        let line = check(b"s007H0A05R", Drive::Idle);
+        assert_eq!(line, Err(Code::Operand));
+        let line = check(b"s007HA05R", Drive::Idle);
+        assert_eq!(line, Ok(Body::Line(Line { slot: Some(7), text: b"HA05", run: true })));
+    }
+
+    #[test]
+    fn lengths() {
+        idle(&"H".repeat(256), 0);
+        idle(&format!("{}R", "H".repeat(255)), 0);
+        idle(&"H".repeat(257), 2);
+        idle(&format!("A{}5", "0".repeat(254)), 0);
+        idle(&format!("A{}5", "0".repeat(255)), 2);
+        idle(&format!("T{}", "0".repeat(256)), 2);
+        idle(&format!("A{}", "9".repeat(255)), 3);
+    }
+
+    #[test]
+    fn stored_text() {
+        for text in ["", "A5", "H", "gG", "S01A5"] {
+            assert!(is_stored_text(text.as_bytes()), "{text}");
+        }
+        for text in ["R", "X", "T", "Q", "A5R", "s0A5", "g", "S01", "A", "\0", "A5\0"] {
+            assert!(!is_stored_text(text.as_bytes()), "{text}");
+        }
+        assert!(is_stored_text("H".repeat(14).as_bytes()));
+        assert!(!is_stored_text("H".repeat(15).as_bytes()));
+        assert!(is_stored_text(format!("A{}", "0".repeat(255)).as_bytes()));
+        assert!(!is_stored_text(format!("A{}", "0".repeat(256)).as_bytes()));
+    }
+}
