@@ -9,9 +9,9 @@ use lib.ListN.{length, getD, take, drop, take-append-drop, drop-of-length-le}
 use lib.Seq.{drop-cons, drop-drop, drop-length, getD-append-add}
 use lib.Dec.{eqb}
 use borrow.Author.Tests.{le-leb, lt-leb, eq-eqb, ne-eqb, eqb-true, eqb-false}
-use Rattle.parts.specs.Parts.{part}
+use Rattle.parts.specs.Parts.{part, same}
 use Rattle.answers.specs.Packet.{slash, hostAddress, endOfText, carriageReturn, lineFeed, tail, packet, dataAt, aroundData, mostData}
-use Rattle.answers.specs.Reading.{statusIn, dataIn, same, framed, printable, allPrintable, goodData, goodStatus, bit, isPacket, insideOf}
+use Rattle.answers.specs.Reading.{statusIn, dataIn, framed, printable, allPrintable, goodData, goodStatus, bit, isPacket, insideOf}
 use Rattle.answers.specs.declared.Inside.the-variants.{StatusData, Neither}
 use Rattle.answers.proofs.Writing.{length-packet}
 

@@ -5,7 +5,7 @@ use mathlib.Core.List.{List, [], _∷_}
 use mathlib.Core.Bool.{Bool, true, false, cond, not, _&&_}
 use lib.ListN.{length, getD}
 use lib.Dec.{leb, eqb}
-use Rattle.parts.specs.Parts.{part}
+use Rattle.parts.specs.Parts.{part, same}
 use Rattle.answers.specs.Packet.{packet, dataAt, aroundData, mostData, lowFour}
 use Rattle.answers.specs.declared.Packet.{Packet}
 use Rattle.answers.specs.declared.Found.{Found}
@@ -19,13 +19,6 @@ statusIn s = getD s 2 0
 
 unfoldable pub dataIn : List ℕ → List ℕ
 dataIn s = part s dataAt (length s - aroundData)
-
--- two lists of bytes, compared
-unfoldable pub same : List ℕ → List ℕ → Bool
-same [] [] = true
-same [] (y ∷ ys) = false
-same (x ∷ xs) [] = false
-same (x ∷ xs) (y ∷ ys) = eqb x y && same xs ys
 
 -- "`/`, `0`, status, data, 03, CR, LF": the packet of its own status and data, and no byte more or less
 unfoldable pub framed : List ℕ → Bool

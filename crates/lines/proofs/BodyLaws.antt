@@ -9,6 +9,7 @@ use lib.Seq.{take-length, take-all}
 use types.Run.{OneOf}
 use denote.Enum.Declared.{tagOf}
 use borrow.Author.Tests.{eq-eqb, ne-eqb}
+use Rattle.parts.specs.Parts.{same}
 use Rattle.digits.proofs.Operand.{the-type}
 use Rattle.digits.specs.declared.Operand.{Operand}
 use Rattle.digits.specs.declared.Operand.the-variants.{Missing, Number, Above}
@@ -19,7 +20,7 @@ use Rattle.lines.specs.declared.Taken.{Taken}
 use Rattle.lines.specs.declared.Judged.{Judged}
 use Rattle.lines.specs.Texts.{storedJudged}
 use Rattle.lines.specs.Scan.{textJudged}
-use Rattle.lines.specs.Bodies.{same, immediates, immediateIn, otherOf, taken, withR, storedAt, storeOf, takenOf, endsWithR, textEnd, lineOf}
+use Rattle.lines.specs.Bodies.{immediates, immediateIn, otherOf, taken, withR, storedAt, storeOf, takenOf, endsWithR, textEnd, lineOf}
 
 pub no-bytes : (b : List ℕ) → length b ≡ 0 → b ≡ []
 no-bytes [] e = refl

@@ -6,6 +6,7 @@ use mathlib.Core.Bool.{Bool, true, false, _||_}
 use lib.ListN.{length, getD, drop}
 use lib.Dec.{ltb, leb, eqb}
 use borrow.Author.Tests.{ltb-false}
+use Rattle.parts.specs.Parts.{same}
 use Rattle.parts.proofs.Laws.{cases}
 use Rattle.digits.specs.declared.Operand.{Operand}
 use Rattle.digits.specs.declared.Operand.the-variants.{Missing, Number, Above}
@@ -24,7 +25,7 @@ use Rattle.lines.specs.declared.Taken.{Taken}
 use Rattle.lines.specs.declared.Judged.{Judged}
 use Rattle.lines.specs.declared.Judged.the-variants.{Passes, Refused}
 use Rattle.lines.specs.Texts.{Reading, commands, faulty, before, goesOn, readingIn, readingFrom, structured, judged, lineJudged, storable, storedJudged, mostBytes}
-use Rattle.lines.specs.Bodies.{Row, same, immediates, immediateIn, beginsImmediate, otherOf, bodyOf, taken, withR, mostSlot, storeOf, takenOf, lineOf, takenCode, bodyCode, lineCode}
+use Rattle.lines.specs.Bodies.{Row, immediates, immediateIn, beginsImmediate, otherOf, bodyOf, taken, withR, mostSlot, storeOf, takenOf, lineOf, takenCode, bodyCode, lineCode}
 
 -- ---- one command
 

@@ -10,7 +10,7 @@ use lib.ListN.{length, getD, take, drop, replicate, length-append, length-replic
 use lib.Seq.{take-at, drop-at, getD-at}
 use lib.Dec.{ltb, leb, eqb}
 use borrow.Author.Tests.{ltb-false, leb-false, le-ltb, lt-leb}
-use Rattle.parts.specs.Parts.{part}
+use Rattle.parts.specs.Parts.{part, same}
 use Rattle.digits.specs.declared.Operand.the-variants.{Number, Above}
 use Rattle.digits.specs.Operand.{widest}
 use Rattle.digits.specs.Decimal.{decimal}
@@ -28,7 +28,7 @@ use Rattle.lines.specs.declared.Body.{Body}
 use Rattle.lines.specs.declared.Taken.{Taken}
 use Rattle.lines.specs.declared.Judged.the-variants.{Passes, Refused}
 use Rattle.lines.specs.Texts.{commands, faulty, judged, structured, storable, lineJudged, storedJudged, mostBytes}
-use Rattle.lines.specs.Bodies.{same, beginsImmediate, otherOf, bodyOf, taken, withR, mostSlot, storedAt, storeOf, takenOf, lineOf, takenCode, bodyCode, lineCode}
+use Rattle.lines.specs.Bodies.{beginsImmediate, otherOf, bodyOf, taken, withR, mostSlot, storedAt, storeOf, takenOf, lineOf, takenCode, bodyCode, lineCode}
 use Rattle.lines.specs.Lists.{HostList, slotText, runText, commandsText, writtenOf, allInRange, slotInRange, shaped, listFault, listCode, list, takenList, listOf, SpellsCommands, none, more, SpellsSlot, without, into, Spells, spells}
 use Rattle.lines.proofs.BodyLaws.{line-other, line-run, line-held}
 use Rattle.lines.proofs.PieceLaws.{Pieces, no-pieces, one-more, written-pieces, spelled-pieces, pieces-no-digit, pieces-read, Begins, pieces-begin, NoR, no-r-append, digits-no-r, byte-no-r, pieces-no-r}

@@ -9,7 +9,7 @@ use lib.ListN.{length, getD, drop, take-append-drop, drop-of-length-le}
 use lib.Seq.{drop-drop, drop-cons}
 use lib.Dec.{ltb, eqb}
 use borrow.Author.Tests.{ltb-false, eqb-true}
-use Rattle.parts.specs.Parts.{part}
+use Rattle.parts.specs.Parts.{part, same}
 use Rattle.parts.proofs.Laws.{cases}
 use Rattle.digits.specs.ReadBack.{spelling}
 use Rattle.digits.proofs.ReadBack.{spelled, number-past}
@@ -24,7 +24,7 @@ use Rattle.lines.specs.declared.Slot.the-variants.{NoSlot, Into}
 use Rattle.lines.specs.declared.Body.{Body}
 use Rattle.lines.specs.declared.Taken.{Taken}
 use Rattle.lines.specs.Texts.{commands, goesOn, readingFrom, structured, storable, lineJudged, storedJudged, mostBytes}
-use Rattle.lines.specs.Bodies.{Row, same, bodyOf, beginsImmediate, immediates, immediateIn, otherOf, endsWithR, lineOf, takenCode}
+use Rattle.lines.specs.Bodies.{Row, bodyOf, beginsImmediate, immediates, immediateIn, otherOf, endsWithR, lineOf, takenCode}
 use Rattle.lines.specs.Lists.{HostList, runText, allInRange, listFault, SpellsCommands, none, more, without, into, Spells, spells, list, listOf, takenList, bodyList}
 use Rattle.lines.specs.Claims.{Spelled, SpelledAs}
 use Rattle.lines.proofs.TextLaws.{reading-law}

@@ -5,6 +5,7 @@ use mathlib.Core.List.{List, [], _∷_}
 use mathlib.Core.Bool.{Bool, true, false, cond, _&&_}
 use lib.ListN.{length, getD, take, drop}
 use lib.Dec.{ltb, leb, eqb}
+use Rattle.parts.specs.Parts.{same}
 use Rattle.digits.specs.Operand.{operandAt}
 use Rattle.digits.specs.declared.Operand.{Operand}
 use Rattle.digits.specs.declared.Operand.the-variants.{Missing, Number, Above}
@@ -16,13 +17,6 @@ use Rattle.lines.specs.declared.Body.{Body}
 use Rattle.lines.specs.declared.Judged.{Judged}
 use Rattle.lines.specs.declared.Taken.{Taken}
 use Rattle.lines.specs.Texts.{mostBytes, lineJudged, storedJudged}
-
--- two lists are the same bytes
-unfoldable pub same : List ℕ → List ℕ → Bool
-same [] [] = true
-same [] (y ∷ ys) = false
-same (x ∷ xs) [] = false
-same (x ∷ xs) (y ∷ ys) = eqb x y && same xs ys
 
 pub record Row : Type 0 where
   pub bytes : List ℕ

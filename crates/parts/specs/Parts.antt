@@ -1,11 +1,11 @@
 -- A part of a list of bytes, read and written. 01: "answer bytes past the packet are unchanged",
 -- "`s` rewrites one entry and one body". Assumes nothing.
 use Prim.Native.Nat.{ℕ, _+_, _-_}
-use mathlib.Core.List.{List, _++_}
-use mathlib.Core.Bool.{Bool, cond}
+use mathlib.Core.List.{List, [], _∷_, _++_}
+use mathlib.Core.Bool.{Bool, true, false, cond, _&&_}
 use mathlib.Core.Path.{_≡_}
 use lib.ListN.{length, take, drop, replicate}
-use lib.Dec.{leb}
+use lib.Dec.{leb, eqb}
 
 -- the n bytes from place a
 unfoldable pub part : List ℕ → ℕ → ℕ → List ℕ
@@ -35,3 +35,10 @@ padded n t = t ++ replicate (n - length t) 0
 -- "the body has 0 to 256 bytes": the first 256 bytes of t, with zeros behind them
 abbrev pub paddedText : List ℕ → List ℕ
 paddedText t = padded 256 (take 256 t)
+
+-- two lists of bytes, compared
+unfoldable pub same : List ℕ → List ℕ → Bool
+same [] [] = true
+same [] (y ∷ ys) = false
+same (x ∷ xs) [] = false
+same (x ∷ xs) (y ∷ ys) = eqb x y && same xs ys

@@ -1,6 +1,6 @@
 -- `lines::alone` meets its contract: each arm knows its byte, and the last that it is neither. Assumes nothing.
 use borrow.Author.Tests.{ne-eqb}
-use Rattle.lines.specs.Bodies.{same}
+use Rattle.parts.specs.Parts.{same}
 use Rattle.lines.proofs.alone.Statement.{statement}
 use Rattle.lines.proofs.alone.Tie as tie
 

@@ -1,7 +1,8 @@
 -- `lines::immediate_letter` meets its contract: each arm knows its byte, and the last that it is none of them. Assumes nothing.
 use mathlib.Core.Bool.{and-false}
 use borrow.Author.Tests.{ne-eqb}
-use Rattle.lines.specs.Bodies.{same, immediates, immediateIn}
+use Rattle.parts.specs.Parts.{same}
+use Rattle.lines.specs.Bodies.{immediates, immediateIn}
 use Rattle.lines.proofs.immediate_letter.Statement.{statement}
 use Rattle.lines.proofs.immediate_letter.Tie as tie
 

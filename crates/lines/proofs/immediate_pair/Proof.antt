@@ -1,7 +1,8 @@
 -- `lines::immediate_pair` meets its contract: each return knows its bytes, or that they are none of the table's. Assumes nothing.
 use mathlib.Core.Bool.{and-false}
 use borrow.Author.Tests.{ne-eqb}
-use Rattle.lines.specs.Bodies.{same, immediates, immediateIn}
+use Rattle.parts.specs.Parts.{same}
+use Rattle.lines.specs.Bodies.{immediates, immediateIn}
 use Rattle.lines.proofs.immediate_pair.Statement.{statement}
 use Rattle.lines.proofs.immediate_pair.Tie as tie
 

@@ -1,11 +1,12 @@
 -- `lines::line_claims`: every claim is a law of `proofs/`, and the examples compute. Assumes nothing.
 use mathlib.Core.Path.{_≡_, refl}
 use mathlib.Core.Bool.{true}
+use Rattle.parts.specs.Parts.{same}
 use Rattle.digits.specs.Operand.{digitRun, valueAfter, operandOf, operandAt}
 use Rattle.commands.specs.Table.{table, find, asksOf, commandOf, oneOf, powerIn, exponentOf, within}
 use Rattle.commands.specs.Reading.{readAt}
 use Rattle.lines.specs.Texts.{readingIn, readingFrom, structured, lineJudged, storedJudged}
-use Rattle.lines.specs.Bodies.{same, immediates, immediateIn, bodyOf, endsWithR, textEnd, takenOf, lineOf, lineCode}
+use Rattle.lines.specs.Bodies.{immediates, immediateIn, bodyOf, endsWithR, textEnd, takenOf, lineOf, lineCode}
 use Rattle.lines.specs.Examples.{bytes, examples, each}
 use Rattle.lines.proofs.TextLaws.{reading-law}
 use Rattle.lines.proofs.LoopLaws.{lawful, at-most-four, enclosed-by, count-here}
