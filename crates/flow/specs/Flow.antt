@@ -11,6 +11,7 @@ use Rattle.lines.specs.Loops.{countOf}
 use Rattle.flow.specs.declared.Flow.{Flow}
 use Rattle.flow.specs.declared.Flowed.{Flowed}
 
+-- one builder, so that a field more changes one place
 abbrev pub flow : ℕ → ℕ → List ℕ → List ℕ → ℕ → Flow
 flow n a s d k = record { length = n; at = a; starts = s; dones = d; depth = k }
 
@@ -26,7 +27,7 @@ gone n f = flow (f .length) n (f .starts) (f .dones) (f .depth)
 abbrev pub opened : ℕ → Flow → Flow
 opened n f = flow (f .length) n (set (f .starts) (f .depth) n) (set (f .dones) (f .depth) 0) (f .depth + 1)
 
--- "`G n` has run its body n times in all .. 0 is for ever": whether the body runs again, run before so often
+-- "`G n` has run its body n times in all .. 0 is for ever": whether it runs again, having run so often before this time
 unfoldable pub again : ℕ → ℕ → Bool
 again n done = eqb n 0 || ltb (done + 1) n
 
@@ -78,7 +79,7 @@ abbrev pub Counts : List ℕ → ℕ → List ℕ → List ℕ → Type 0
 Counts t zero starts dones = Unit
 Counts t (suc d) starts dones = Below (getD dones d 0) (countOf t (getD starts d 0)) × Counts t d starts dones
 
--- "each loop end returns to its own start until its count is done": behind a loop end with the count m, and the place `next` behind it
+-- "each loop end returns to its own start until its count is done": what a loop end with the count m makes of a flow
 pub data EndsLoop (m next : ℕ) (f : Flow) : Flow → Type 0 where
   returns : (d : ℕ) → f .depth ≡ suc d → Below (suc (getD (f .dones) d 0)) m → EndsLoop m next f (backed d m f)
   leaves : (d : ℕ) → f .depth ≡ suc d → suc (getD (f .dones) d 0) ≡ m → EndsLoop m next f (left d next f)
