@@ -1,0 +1,247 @@
+-- What is claimed of the host's lines, each by the three ways in which a list may be answered (`answered`). Assumes nothing.
+use Prim.Native.Nat.{ℕ, zero, suc, _+_, _/_, _≤_, _<_}
+use mathlib.Core.Path.{_≡_, refl, sym, ap, _∙_}
+use mathlib.Core.List.{List, [], _∷_, _++_}
+use mathlib.Core.Bool.{Bool, true, false, cond}
+use native.Mathlib.Omega.{arith}
+use native.Mathlib.Nat.{zero-add}
+use native.Mathlib.Decide.{decLt}
+use lib.ListN.{length, getD, take, length-append, List·getD-append}
+use lib.Dec.{ltb, eqb}
+use borrow.Author.Tests.{leb-true, leb-false, eqb-true, eqb-false, ne-eqb}
+use Rattle.parts.specs.Parts.{room, put}
+use Rattle.parts.proofs.Laws.{take-put, drop-put, length-put, put-front}
+use Rattle.digits.specs.Decimal.{digitsIn, digitsOf, ascii, decimal}
+use Rattle.digits.proofs.Writing.{decimal-last, decimal-more, length-some}
+use Rattle.commands.specs.declared.Command.{Command}
+use Rattle.commands.specs.declared.Spelling.{Spelling}
+use Rattle.commands.specs.declared.Spelling.the-variants.{Alone, WithNumber, WithTwoDigits}
+use Rattle.commands.specs.Table.{oneOf}
+use Rattle.commands.specs.Writing.{twoDigits, bytesOf, spelled, spellingOf, zeroed}
+use Rattle.commands.proofs.WritingLaws.{spells-itself, spelling-some}
+use Rattle.lines.specs.declared.Slot.{Slot}
+use Rattle.lines.specs.declared.Slot.the-variants.{NoSlot, Into}
+use Rattle.lines.specs.Texts.{mostBytes, structured}
+use Rattle.lines.specs.Bodies.{same, bodyOf, lineCode}
+use Rattle.lines.specs.Examples.{bytes}
+use Rattle.lines.specs.Lists.{HostList, slotText, commandsText, runText, writtenOf, allInRange, listFault, listCode, list, listOf}
+use Rattle.lines.proofs.ListLaws.{list-law, list-back, spelled-taken}
+use Rattle.lines.proofs.SpellLaws.{reads-spelled}
+use Rattle.lines.proofs.CodeLaws.{codes}
+use Rattle.host.specs.declared.LineWritten.{LineWritten}
+use Rattle.host.specs.declared.LineWritten.the-variants.{Bytes, Refused, NoRoom}
+use Rattle.host.specs.Host.{hostList, codeOf, fitted, answerOf, codeIn, leftBy, LineIs}
+use Rattle.host.specs.Claims.{emptyList, k8List, slotList, PlainCommands, none, more, PlainSlot, without, into, SpellsPlainly, plainly, LineWrittenIs, LineRefusedIs, LineShortIs}
+use Rattle.host.proofs.LineLaws.{code-few, code-long}
+
+-- ---- the three ways
+
+module _ {l : HostList} {count : ℕ} {buffer after : List ℕ} {answer : LineWritten} (p : LineIs l count buffer answer after) where
+  pub answered : (P : LineWritten → List ℕ → Type 0)
+      → (codeOf l count ≡ 0 → length (writtenOf l) ≤ length buffer → P (Bytes (length (writtenOf l))) (put buffer 0 (writtenOf l)))
+      → (codeOf l count ≡ 0 → length buffer < length (writtenOf l) → P NoRoom buffer)
+      → ((codeOf l count ≡ 0 → ⊥) → P (Refused (codeOf l count)) buffer)
+      → P answer after
+  unfolding answerOf
+  answered P w s r = rw (p .answers, p .leaves) (go (eqb (codeOf l count) 0) refl)
+    where
+      fit : (b : Bool) → room buffer 0 (length (writtenOf l)) ≡ b → codeOf l count ≡ 0
+          → P (cond b (Bytes (length (writtenOf l))) NoRoom) (leftBy (cond b (Bytes (length (writtenOf l))) NoRoom) l buffer)
+      fit true e z = let h = leb-true (0 + length (writtenOf l)) (length buffer) e in w z (omega arith)
+      fit false e z = let h = leb-false (0 + length (writtenOf l)) (length buffer) e in s z (omega arith)
+
+      go : (b : Bool) → eqb (codeOf l count) 0 ≡ b
+          → P (cond b (fitted buffer (length (writtenOf l))) (Refused (codeOf l count)))
+          (leftBy (cond b (fitted buffer (length (writtenOf l))) (Refused (codeOf l count))) l buffer)
+      go true e = fit (room buffer 0 (length (writtenOf l))) refl (eqb-true (codeOf l count) 0 e)
+      go false e = r (eqb-false (codeOf l count) 0 e)
+
+  pub its-code : codeIn answer ≡ codeOf l count
+  its-code = answered (λ a x. codeIn a ≡ codeOf l count) (λ z h. sym z) (λ z h. sym z) (λ z. refl)
+
+  pub written-where : codeOf l count ≡ 0 → length (writtenOf l) ≤ length buffer → answer ≡ Bytes (length (writtenOf l))
+  written-where z h = answered (λ a x. a ≡ Bytes (length (writtenOf l))) (λ y g. refl) (λ y g. absurd (omega arith)) (λ y. absurd (y z))
+
+  pub short-where : codeOf l count ≡ 0 → length buffer < length (writtenOf l) → answer ≡ NoRoom
+  short-where z h = answered (λ a x. a ≡ NoRoom) (λ y g. absurd (omega arith)) (λ y g. refl) (λ y. absurd (y z))
+
+-- ---- what each answer says
+
+-- no code: not too many commands, and none of the list's
+code-parts : (o : Bool) (c : ℕ) → _≡_ {A = ℕ} (cond o 2 c) 0 → c ≡ 0
+code-parts true c e = absurd (omega arith)
+code-parts false c e = e
+
+list-taken : (l : HostList) (count : ℕ) → codeOf l count ≡ 0 → listCode l ≡ 0
+unfolding codeOf
+list-taken l count e = code-parts (ltb mostBytes count) (listCode l) e
+
+-- a code is 2 or 3, where it is not 0
+two-or-three : (c : ℕ) → oneOf (0 ∷ 2 ∷ 3 ∷ []) c ≡ true → (c ≡ 0 → ⊥) → oneOf (2 ∷ 3 ∷ []) c ≡ true
+unfolding oneOf
+two-or-three c h z = rw (ne-eqb c 0 z) at h
+
+fault-code : (l : HostList) (count : ℕ) → (codeOf l count ≡ 0 → ⊥) → oneOf (2 ∷ 3 ∷ []) (codeOf l count) ≡ true
+unfolding codeOf oneOf
+fault-code l count z = go (ltb mostBytes count) z
+  where
+    go : (o : Bool) → (_≡_ {A = ℕ} (cond o 2 (listCode l)) 0 → ⊥) → oneOf (2 ∷ 3 ∷ []) (cond o 2 (listCode l)) ≡ true
+    go true y = refl
+    go false y = two-or-three (listCode l) (rw (← list-law l) (codes (writtenOf l))) y
+
+module _ (l : HostList) (count : ℕ) (buffer : List ℕ) where
+  put-reads : codeOf l count ≡ 0 → length (writtenOf l) ≤ length buffer → LineWrittenIs l count (length (writtenOf l)) buffer (put buffer 0 (writtenOf l))
+  put-reads z h =
+      let t : List ℕ = writtenOf l in
+      let front : take (length t) (put buffer 0 t) ≡ t = ap (λ (k : ℕ). take k (put buffer 0 t)) (sym (zero-add (length t))) ∙ take-put buffer 0 t (omega arith) in
+      record {
+        no-code = z;
+        fits = h;
+        bytes = front;
+        reads-back = ap listOf front ∙ list-back l (list-taken l count z);
+        past-line = rw zero-add at (drop-put buffer 0 t (omega arith));
+        as-long = length-put buffer 0 t (omega arith);
+      }
+
+  pub written : {n : ℕ} {after : List ℕ} → LineIs l count buffer (Bytes n) after → LineWrittenIs l count n buffer after
+  written {n} {after} p = answered p (λ a x. a ≡ Bytes n → LineWrittenIs l count n buffer x)
+      (λ z h e. let same : length (writtenOf l) ≡ n = cc in rw (← same) (put-reads z h))
+      (λ z h e. let y : _≡_ {A = ℕ} 0 1 = cc in absurd (omega arith))
+      (λ z e. let y : _≡_ {A = ℕ} 0 1 = cc in absurd (omega arith))
+      refl
+
+  pub short : {after : List ℕ} → LineIs l count buffer NoRoom after → LineShortIs l count buffer after
+  short p = answered p (λ a x. a ≡ NoRoom → LineShortIs l count buffer x)
+      (λ z h e. let y : _≡_ {A = ℕ} 0 1 = cc in absurd (omega arith))
+      (λ z h e. record { no-code = z; too-short = h; unchanged = refl })
+      (λ z e. let y : _≡_ {A = ℕ} 0 1 = cc in absurd (omega arith))
+      refl
+
+  pub refused : {code : ℕ} {after : List ℕ} → LineIs l count buffer (Refused code) after → LineRefusedIs l count code buffer after
+  refused {code} p = answered p (λ a x. a ≡ Refused code → LineRefusedIs l count code buffer x)
+      (λ z h e. let y : _≡_ {A = ℕ} 0 1 = cc in absurd (omega arith))
+      (λ z h e. let y : _≡_ {A = ℕ} 0 1 = cc in absurd (omega arith))
+      (λ z e. let same : codeOf l count ≡ code = cc in record { its-code = sym same; a-fault = rw (← same) (fault-code l count z); unchanged = refl })
+      refl
+
+-- ---- the code
+
+pub line-check : (l : HostList) (count : ℕ) → count ≤ mostBytes → codeOf l count ≡ lineCode (writtenOf l)
+line-check l count h = code-few l count h ∙ sym (list-law l)
+
+-- each command has a byte at least
+commands-bytes : (cs : List Command) → length cs ≤ length (commandsText cs)
+unfolding commandsText
+commands-bytes [] = omega arith
+commands-bytes (c ∷ cs) =
+    omega (arith, commands-bytes cs, spelling-some c (spelled c) (spells-itself c), length-append (spelled c) (commandsText cs))
+
+pub too-many : (l : HostList) → mostBytes < length (l .listed) → listCode l ≡ 2
+unfolding writtenOf
+too-many l h =
+    let t : List ℕ = commandsText (l .listed) ++ runText (l .run) in
+    code-long l (omega (arith, commands-bytes (l .listed), length-append (slotText (l .slot)) t, length-append (commandsText (l .listed)) (runText (l .run))))
+
+-- ---- the empty list
+
+pub empty-written : writtenOf emptyList ≡ []
+unfolding writtenOf commandsText
+empty-written = refl
+
+empty-code : codeOf emptyList 0 ≡ 0
+unfolding codeOf listCode listFault writtenOf commandsText allInRange structured
+empty-code = refl
+
+pub empty-reads : listOf [] ≡ list emptyList
+unfolding listOf bodyOf oneOf same
+empty-reads = refl
+
+pub empty-answer : (commands : List Command) {buffer after : List ℕ} {answer : LineWritten}
+    → LineIs (hostList NoSlot commands 0 false) 0 buffer answer after → (answer ≡ Bytes 0) × (after ≡ buffer)
+unfolding writtenOf commandsText
+empty-answer commands {buffer} p = answered p (λ a x. (a ≡ Bytes 0) × (x ≡ buffer))
+    (λ z h. (refl, put-front buffer []))
+    (λ z h. absurd (omega arith))
+    (λ z. absurd (z empty-code))
+
+-- ---- the plain spelling
+
+plain-bytes : (sp : Spelling) → zeroed sp 0 ≡ bytesOf sp
+plain-bytes (Alone l) = refl
+plain-bytes (WithNumber l n) = refl
+plain-bytes (WithTwoDigits l n) = refl
+
+plain-command : (c : Command) → zeroed (spellingOf c) 0 ≡ spelled c
+unfolding spelled
+plain-command c = plain-bytes (spellingOf c)
+
+slot-plainly : (s : Slot) → PlainSlot s (slotText s)
+slot-plainly NoSlot = without
+slot-plainly (Into n) = into n
+
+commands-plainly : (cs : List Command) → PlainCommands cs (commandsText cs)
+unfolding commandsText
+commands-plainly [] = none
+commands-plainly (c ∷ cs) = rw (← plain-command c) (more c (commands-plainly cs))
+
+pub written-plainly : (l : HostList) → SpellsPlainly l (writtenOf l)
+unfolding writtenOf
+written-plainly l = plainly (l .run) (slot-plainly (l .slot)) (commands-plainly (l .listed))
+
+plain-slot : {s : Slot} {b : List ℕ} → PlainSlot s b → b ≡ slotText s
+plain-slot without = refl
+plain-slot (into n) = refl
+
+plain-commands : {cs : List Command} {b : List ℕ} → PlainCommands cs b → b ≡ commandsText cs
+unfolding commandsText
+plain-commands none = refl
+plain-commands (more c p) = rw (plain-command c) (ap (λ (t : List ℕ). spelled c ++ t) (plain-commands p))
+
+pub plain-written : {l : HostList} {b : List ℕ} → SpellsPlainly l b → b ≡ writtenOf l
+unfolding writtenOf
+plain-written (plainly run s p) = rw (plain-slot s, plain-commands p)
+
+plain-code : (l m : HostList) {b : List ℕ} → b ≡ writtenOf l → listOf b ≡ list m → listCode l ≡ 0
+plain-code l m {b} e f =
+    let k = reads-spelled b m f in
+    sym (list-law l) ∙ sym (ap lineCode e) ∙ spelled-taken (k .short) (k .spells) (k .no-fault) .0
+
+pub plain-back : {l m : HostList} {b : List ℕ} → SpellsPlainly l b → listOf b ≡ list m → b ≡ writtenOf m
+plain-back {l} {m} {b} p f =
+    let e = plain-written p in
+    let g : list l ≡ list m = sym (list-back l (plain-code l m e f)) ∙ sym (ap listOf e) ∙ f in
+    let h : l ≡ m = cc in
+    e ∙ ap writtenOf h
+
+-- ---- lists and their bodies
+
+pub k8-written : writtenOf k8List ≡ bytes "gA0S03e0G0R"
+unfolding writtenOf commandsText spelled twoDigits decimal ascii digitsOf digitsIn bytes
+k8-written = refl
+
+pub slot-written : writtenOf slotList ≡ bytes "s15H02R"
+unfolding writtenOf commandsText spelled twoDigits decimal ascii digitsOf digitsIn bytes
+slot-written = refl
+
+-- ---- no leading zero
+
+first-digit : (k n : ℕ) → n ≤ k → 1 ≤ n → getD (decimal n) 0 0 ≡ 48 → ⊥
+first-digit zero n h g e = absurd (omega arith)
+first-digit (suc k) n h g e = go (λ a b f. first-digit k (n / 10) a b f) (decLt n 10)
+  where
+    go : (n / 10 ≤ k → 1 ≤ n / 10 → getD (decimal (n / 10)) 0 0 ≡ 48 → ⊥) → Dec (n < 10) → ⊥
+    go rest (yes l) = let q : 48 + n ≡ 48 = rw (decimal-last n l) at e in omega arith
+    go rest (no m) =
+        let l : 10 ≤ n = omega arith in
+        let q : getD (decimal (n / 10)) 0 0 ≡ 48 =
+        sym (ap (λ (t : List ℕ). getD t 0 0) (decimal-more n l) ∙ List·getD-append (decimal (n / 10)) _ 0 0 (length-some (n / 10))) ∙ e
+        in
+        rest (omega arith) (omega arith) q
+
+pub no-leading-zero : (n : ℕ) → 1 ≤ n → getD (decimal n) 0 0 ≡ 48 → ⊥
+no-leading-zero n h e = first-digit n n (omega arith) h e
+
+-- ---- no two lists are written alike
+
+pub written-apart : (l m : HostList) → listCode l ≡ 0 → listCode m ≡ 0 → writtenOf l ≡ writtenOf m → l ≡ m
+written-apart l m e f g = let h : list l ≡ list m = sym (list-back l e) ∙ ap listOf g ∙ list-back m f in cc

@@ -1,0 +1,2 @@
+pub mod ElseLaws
+pub mod TurnLaws

@@ -1,0 +1,255 @@
+-- Laws of a turn: the action kept is that of the wait, and a turn ends a run for its causes only, each with its code. Assumes nothing.
+use Prim.Native.Nat.{ℕ, _-_, _<_}
+use mathlib.Core.Path.{_≡_, refl}
+use mathlib.Core.List.{List}
+use mathlib.Core.Bool.{Bool, true, false}
+use mathlib.Core.Logic.{_⊎_, inl, inr}
+use native.Mathlib.Omega.{arith}
+use lib.ListN.{take}
+use lib.Dec.{ltb, eqb}
+use borrow.Author.Tests.{le-ltb, ne-eqb}
+use Rattle.parts.proofs.Laws.{cases}
+use Rattle.commands.specs.declared.Command.{Command}
+use Rattle.commands.specs.declared.Command.the-variants.{LoopBegin, LoopEnd, Skip, Jump, Plain}
+use Rattle.commands.specs.declared.Act.{Act}
+use Rattle.commands.specs.declared.Act.the-variants.{MoveTo, MoveUp, MoveDown, SetPosition, Home, TopSpeed, Acceleration, FlagLevel, Turned, MoveCurrent, HoldCurrent, StepSize, Correction, Outputs, Baud, Delay, WaitInput}
+use Rattle.commands.specs.declared.Read.{Read}
+use Rattle.commands.specs.declared.Read.the-variants.{At, Bad, End}
+use Rattle.commands.specs.Table.{top}
+use Rattle.commands.specs.Reading.{readAt}
+use Rattle.image.specs.Image.{slotGood}
+use Rattle.flow.specs.declared.Flowed.{Flowed}
+use Rattle.flow.specs.Flow.{gone, loopBegun, loopEnded}
+use Rattle.motor.specs.declared.Wait.{Wait}
+use Rattle.motor.specs.declared.Motor.{Motor}
+use Rattle.motor.specs.declared.Moved.{Moved}
+use Rattle.motor.specs.declared.Moved.the-variants.{Goes, Stops}
+use Rattle.motor.specs.Inputs.{levelThere}
+use Rattle.motor.specs.Motion.{room, reported, actionOf, relative, absolute, ifKnown, served}
+use Rattle.motor.proofs.StopLaws as stops
+use Rattle.motor.proofs.StopLaws.{ServeStops, finite-stops, finite-leaves, relative-stops, relative-leaves, known-stops, serve-stops, stops-serve}
+use Rattle.turns.specs.declared.Core.{Core}
+use Rattle.turns.specs.declared.Stepped.{Stepped}
+use Rattle.turns.specs.Turns.{withFlow, withMotor, ended, astray, moved, acted, flowed, skipped, stays, jumped, skipTaken, commandTaken, readTaken, isFree, running, stepOf, turnCore}
+use Rattle.turns.specs.Ends.{Moving, moveTo, moveUp, moveDown, Leaving, beyond, above, below, Reads, Strays, badRead, tooDeep, noneOpen, skipsBad, skipsEnd, TurnEnds, textEnds, flagNotFound, badSlot, unknown, leavesRange, rangeEnds, strays}
+
+-- "and answers the next motor action": the action kept is that of the wait
+pub turn-last : (sample ms steps : ℕ) (text image : List ℕ) (c : Core)
+    → turnCore sample ms steps text image c .core .motor .last ≡ actionOf (turnCore sample ms steps text image c .core .motor .wait)
+unfolding turnCore
+turn-last sample ms steps text image c = refl
+
+-- ---- `A`, whatever its number
+
+pub absolute-stops : (n : ℕ) (m : Motor) {k : ℕ} → absolute n m ≡ Stops k → (k ≡ 11) × (m .position < n) × (top < n)
+unfolding absolute room
+absolute-stops n m {k} =
+    cases (λ (r : Moved). r ≡ Stops k → (k ≡ 11) × (m .position < n) × (top < n)) (eqb n (m .position))
+    (λ q e. absurd (never e))
+    (λ q. cases (λ (r : Moved). r ≡ Stops k → (k ≡ 11) × (m .position < n) × (top < n)) (ltb n (m .position))
+    (λ l e. let h = finite-stops false (m .position - n) m e .1 in absurd (omega arith))
+    (λ l e. let h = finite-stops true (n - m .position) m e in (h .0, omega (arith, h .1), omega (arith, h .1))))
+  where
+    never : Goes m ≡ Stops k → ⊥
+    never e = let z : _≡_ {A = ℕ} 0 1 = cc in omega arith
+
+pub absolute-leaves : (n : ℕ) (m : Motor) → m .position < n → top < n → absolute n m ≡ Stops 11
+unfolding absolute room
+absolute-leaves n m h l =
+    rw (ne-eqb n (m .position) (λ e. omega arith), le-ltb n (m .position) (omega arith)) (finite-leaves true (n - m .position) m (omega arith))
+
+-- ---- only for a cause, and each cause does
+
+clash : {A : Type 0} {b : Bool} → b ≡ true → b ≡ false → A
+clash h q = let z : _≡_ {A = ℕ} 0 1 = cc in absurd (omega arith)
+
+-- a motor that stops ends the run with its code, and one that goes on does not
+moved-ends : (P : ℕ → Type 0) (e : Core) (r : Moved) → e .running ≡ true → ((k : ℕ) → r ≡ Stops k → P k) → moved r e .running ≡ false → P (moved r e .code)
+unfolding ended
+moved-ends P e (Goes m) h f q = clash h q
+moved-ends P e (Stops k) h f q = f k refl
+
+moved-stops : (e : Core) (r : Moved) {k : ℕ} → r ≡ Stops k → (moved r e .running ≡ false) × (moved r e .code ≡ k)
+unfolding ended
+moved-stops e r s = rw s (refl, refl)
+
+known-goes : (m : Motor) (r : Moved) {k : ℕ} → m .known ≡ true → r ≡ Stops k → ifKnown m r ≡ Stops k
+known-goes m r h e = rw h e
+
+unknown-goes : (m : Motor) (r : Moved) → m .known ≡ false → ifKnown m r ≡ Stops 7
+unknown-goes m r h = rw h
+
+module _ (sample ms steps : ℕ) (t image : List ℕ) (c : Core) where
+  -- once the report is counted
+  abbrev then : Motor
+  then = reported sample steps (c .motor)
+
+  abbrev after : Core
+  after = withMotor then c
+
+  -- behind the command that is taken
+  abbrev behind : ℕ → Core
+  behind next = withFlow (gone next (c .flow)) after
+
+  abbrev Ends : ℕ → Type 0
+  Ends k = TurnEnds sample steps t image c k
+
+  -- e, where it has ended, has ended for a cause
+  abbrev Caused : Core → Type 0
+  Caused e = e .running ≡ false → Ends (e .code)
+
+  at-command : c .running ≡ true → (r : Read) → Reads t c r → stepOf sample ms steps t image c ≡ readTaken r t image after
+  unfolding stepOf running reported
+  at-command h r e = rw (h, e .free, e .stands)
+
+  at-wait : c .running ≡ true → (w : Wait) → c .motor .wait ≡ w → isFree w ≡ false
+      → stepOf sample ms steps t image c ≡ stays (moved (served w (c .motor .sample) (c .settings .flag) ms steps then) after)
+  unfolding stepOf running reported
+  at-wait h w e f = rw (h, e, f)
+
+  -- `A`, `P` or `D`: the position is unknown, or the range would be left
+  move-ends : (a : Act) (next : ℕ) (s : Moved) → Reads t c (At (Plain a) next) → Moving a → ((k : ℕ) → s ≡ Stops k → (k ≡ 11) × Leaving (then .position) a)
+      → (k : ℕ) → ifKnown then s ≡ Stops k → Ends k
+  unfolding reported
+  move-ends a next s r m f k e = go (known-stops then s e)
+    where
+      go : ((c .motor .known ≡ false) × (k ≡ 7)) ⊎ ((c .motor .known ≡ true) × (s ≡ Stops k)) → Ends k
+      go (inl u) = rw (u .1) (unknown a next r m (u .0))
+      go (inr u) = let l = f k (u .1) in rw (l .0) (leavesRange a next r (u .0) (l .1))
+
+  act-ends : (a : Act) (next : ℕ) → Reads t c (At (Plain a) next) → c .running ≡ true → Caused (acted a (behind next))
+  unfolding acted
+  act-ends (MoveTo n) next r h =
+      moved-ends Ends (behind next) (ifKnown then (absolute n then)) h
+      (move-ends (MoveTo n) next (absolute n then) r (moveTo n) (λ k e. let s = absolute-stops n then e in (s .0, beyond n (s .1) (s .2))))
+  act-ends (MoveUp n) next r h =
+      moved-ends Ends (behind next) (ifKnown then (relative true n then)) h
+      (move-ends (MoveUp n) next (relative true n then) r (moveUp n) (λ k e. let s = relative-stops true n then e in (s .0, above n (s .2))))
+  act-ends (MoveDown n) next r h =
+      moved-ends Ends (behind next) (ifKnown then (relative false n then)) h
+      (move-ends (MoveDown n) next (relative false n then) r (moveDown n) (λ k e. let s = relative-stops false n then e in (s .0, below n (s .2))))
+  act-ends (SetPosition n) next r h = clash h
+  act-ends (Home n) next r h = clash h
+  act-ends (TopSpeed n) next r h = clash h
+  act-ends (Acceleration n) next r h = clash h
+  act-ends (FlagLevel n) next r h = clash h
+  act-ends (Turned n) next r h = clash h
+  act-ends (MoveCurrent n) next r h = clash h
+  act-ends (HoldCurrent n) next r h = clash h
+  act-ends (StepSize n) next r h = clash h
+  act-ends (Correction n) next r h = clash h
+  act-ends (Outputs n) next r h = clash h
+  act-ends (Baud n) next r h = clash h
+  act-ends (Delay n) next r h = clash h
+  act-ends (WaitInput n) next r h = clash h
+
+  flow-ends : (f : Flowed) → c .running ≡ true → (f .astray ≡ true → Strays sample t c) → Caused (flowed f after)
+  unfolding astray ended
+  flow-ends f h s = cases Caused (f .astray) (λ q z. strays (s q)) (λ q z. clash h z)
+
+  skip-ends : (digits next : ℕ) → Reads t c (At (Skip digits) next) → c .running ≡ true → Caused (skipTaken digits t next after)
+  unfolding skipTaken astray ended reported
+  skip-ends digits next r h = cases Caused (levelThere digits sample) (λ l. go l (readAt t next) refl) (λ l z. clash h z)
+    where
+      go : levelThere digits sample ≡ true → (x : Read) → readAt t next ≡ x → Caused (skipped x after)
+      go l (At d past) e z = clash h z
+      go l (Bad f) e z = strays (skipsBad digits next f r l e)
+      go l End e z = strays (skipsEnd digits next r l e)
+
+  jump-ends : (slot next : ℕ) → Reads t c (At (Jump slot) next) → c .running ≡ true → Caused (jumped slot image after .core)
+  unfolding jumped ended
+  jump-ends slot next r h = cases (λ (s : Stepped). Caused (s .core)) (slotGood image slot) (λ q z. clash h z) (λ q z. badSlot slot next r q)
+
+  command-ends : (d : Command) (next : ℕ) → Reads t c (At d next) → c .running ≡ true → Caused (commandTaken d next t image after .core)
+  unfolding commandTaken
+  command-ends LoopBegin next r h = flow-ends (loopBegun next (c .flow)) h (λ q. tooDeep next r q)
+  command-ends (LoopEnd n) next r h = flow-ends (loopEnded n next (c .flow)) h (λ q. noneOpen n next r q)
+  command-ends (Skip digits) next r h = skip-ends digits next r h
+  command-ends (Jump slot) next r h = jump-ends slot next r h
+  command-ends (Plain a) next r h = act-ends a next r h
+
+  read-ends : (r : Read) → Reads t c r → c .running ≡ true → Caused (readTaken r t image after .core)
+  unfolding readTaken astray ended
+  read-ends (At d next) r h = command-ends d next r h
+  read-ends (Bad f) r h = λ z. strays (badRead f r)
+  read-ends End r h = λ z. textEnds r
+
+  served-ends : (k : ℕ) (w : Wait) → c .motor .wait ≡ w → ServeStops (c .motor .sample) (c .settings .flag) steps then w k → Ends k
+  unfolding reported
+  served-ends k w e (stops.rangeEnds up left f z) = rangeEnds up left e f z
+  served-ends k w e (stops.notFound away left n f l) = flagNotFound away left n e f l
+
+  -- a run that a turn ends has had a cause
+  pub step-only : c .running ≡ true → Caused (stepOf sample ms steps t image c .core)
+  step-only h = go (c .motor .wait) refl
+    where
+      serve : (w : Wait) → c .motor .wait ≡ w → isFree w ≡ false → Caused (stepOf sample ms steps t image c .core)
+      serve w e f =
+          rw (at-wait h w e f)
+          (moved-ends Ends after (served w (c .motor .sample) (c .settings .flag) ms steps then) h
+          (λ k s. served-ends k w e (serve-stops w (c .motor .sample) (c .settings .flag) ms steps then s)))
+
+      go : (w : Wait) → c .motor .wait ≡ w → Caused (stepOf sample ms steps t image c .core)
+      go Wait.Nothing e =
+          let r : Reads t c (readAt t (c .flow .at)) = record { free = e; stands = refl } in
+          rw (at-command h (readAt t (c .flow .at)) r) (read-ends (readAt t (c .flow .at)) r h)
+      go (Wait.Move goesUp endless left) e = serve (Wait.Move goesUp endless left) e refl
+      go (Wait.Leg away left n) e = serve (Wait.Leg away left n) e refl
+      go (Wait.Delay left) e = serve (Wait.Delay left) e refl
+      go (Wait.Input digits) e = serve (Wait.Input digits) e refl
+
+  -- the run has ended with the code k
+  abbrev Ended : Stepped → ℕ → Type 0
+  Ended s k = (s .core .running ≡ false) × (s .core .code ≡ k)
+
+  act-stops : (a : Act) (next k : ℕ) → Reads t c (At (Plain a) next) → c .running ≡ true → (acted a (behind next) .running ≡ false) × (acted a (behind next) .code ≡ k)
+      → Ended (stepOf sample ms steps t image c) k
+  unfolding readTaken commandTaken
+  act-stops a next k r h e = rw (at-command h (At (Plain a) next) r) e
+
+  leaving-stops : (a : Act) (next : ℕ) → c .motor .known ≡ true → Leaving (then .position) a → (acted a (behind next) .running ≡ false) × (acted a (behind next) .code ≡ 11)
+  unfolding acted reported
+  leaving-stops a next q (beyond n l z) = moved-stops (behind next) (ifKnown then (absolute n then)) (known-goes then (absolute n then) q (absolute-leaves n then l z))
+  leaving-stops a next q (above n l) = moved-stops (behind next) (ifKnown then (relative true n then)) (known-goes then (relative true n then) q (relative-leaves true n then l))
+  leaving-stops a next q (below n l) = moved-stops (behind next) (ifKnown then (relative false n then)) (known-goes then (relative false n then) q (relative-leaves false n then l))
+
+  unknown-stops : (a : Act) (next : ℕ) → Moving a → c .motor .known ≡ false → (acted a (behind next) .running ≡ false) × (acted a (behind next) .code ≡ 7)
+  unfolding acted reported
+  unknown-stops a next (moveTo n) q = moved-stops (behind next) (ifKnown then (absolute n then)) (unknown-goes then (absolute n then) q)
+  unknown-stops a next (moveUp n) q = moved-stops (behind next) (ifKnown then (relative true n then)) (unknown-goes then (relative true n then) q)
+  unknown-stops a next (moveDown n) q = moved-stops (behind next) (ifKnown then (relative false n then)) (unknown-goes then (relative false n then) q)
+
+  strays-end : Strays sample t c → c .running ≡ true → Ended (stepOf sample ms steps t image c) (c .code)
+  unfolding readTaken commandTaken skipTaken astray ended reported
+  strays-end (badRead f r) h = rw (at-command h (Bad f) r) (refl, refl)
+  strays-end (tooDeep next r q) h = rw (at-command h (At LoopBegin next) r, q) (refl, refl)
+  strays-end (noneOpen n next r q) h = rw (at-command h (At (LoopEnd n) next) r, q) (refl, refl)
+  strays-end (skipsBad digits next f r l e) h = rw (at-command h (At (Skip digits) next) r, l, e) (refl, refl)
+  strays-end (skipsEnd digits next r l e) h = rw (at-command h (At (Skip digits) next) r, l, e) (refl, refl)
+
+  -- each cause ends the run, with its code
+  pub step-each : (k : ℕ) → TurnEnds sample steps t image c k → c .running ≡ true → Ended (stepOf sample ms steps t image c) k
+  unfolding readTaken commandTaken jumped astray ended reported
+  step-each k (textEnds r) h = rw (at-command h End r) (refl, refl)
+  step-each k (flagNotFound away left n e f l) h =
+      rw (at-wait h (Wait.Leg away left n) e refl)
+      (moved-stops after (served (Wait.Leg away left n) (c .motor .sample) (c .settings .flag) ms steps then) (stops-serve ms (stops.notFound away left n f l)))
+  step-each k (badSlot slot next r q) h = rw (at-command h (At (Jump slot) next) r, q) (refl, refl)
+  step-each k (unknown a next r m q) h = act-stops a next 7 r h (unknown-stops a next m q)
+  step-each k (leavesRange a next r q l) h = act-stops a next 11 r h (leaving-stops a next q l)
+  step-each k (rangeEnds goesUp left e f z) h =
+      rw (at-wait h (Wait.Move goesUp true left) e refl)
+      (moved-stops after (served (Wait.Move goesUp true left) (c .motor .sample) (c .settings .flag) ms steps then) (stops-serve ms (stops.rangeEnds goesUp left f z)))
+  step-each k (strays s) h = strays-end s h
+
+-- ---- a whole turn: the text is the current one
+
+pub turn-only : (sample ms steps : ℕ) (text image : List ℕ) (c : Core) → c .running ≡ true → turnCore sample ms steps text image c .core .running ≡ false
+    → TurnEnds sample steps (take (c .flow .length) text) image c (turnCore sample ms steps text image c .core .code)
+unfolding turnCore
+turn-only sample ms steps text image c h = step-only sample ms steps (take (c .flow .length) text) image c h
+
+pub turn-each : (sample ms steps : ℕ) (text image : List ℕ) (c : Core) (k : ℕ) → TurnEnds sample steps (take (c .flow .length) text) image c k → c .running ≡ true
+    → (turnCore sample ms steps text image c .core .running ≡ false) × (turnCore sample ms steps text image c .core .code ≡ k)
+unfolding turnCore
+turn-each sample ms steps text image c k e h = step-each sample ms steps (take (c .flow .length) text) image c k e h
