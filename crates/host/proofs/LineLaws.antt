@@ -3,12 +3,12 @@
 use Prim.Native.Nat.{ℕ, _+_, _-_, _≤_, _<_}
 use mathlib.Core.Path.{_≡_, refl, sym, ap, _∙_}
 use mathlib.Core.List.{List}
-use mathlib.Core.Bool.{true, false}
+use mathlib.Core.Bool.{Bool, true, false, cond}
 use native.Mathlib.Omega.{arith}
 use lib.ListN.{length, take, replicate, length-replicate}
 use lib.Dec.{eqb}
 use borrow.Author.Tests.{lt-ltb, le-ltb, ne-eqb, leb-true, leb-false}
-use Rattle.parts.specs.Parts.{PutIs}
+use Rattle.parts.specs.Parts.{room, PutIs}
 use Rattle.parts.proofs.Laws.{take-put, put-in-room, put-in-full}
 use Rattle.digits.specs.declared.Written.the-variants.{Past, NoRoom}
 use Rattle.lines.specs.Texts.{mostBytes}
@@ -36,9 +36,9 @@ unfolding answerOf
 line-refused l count buffer code e f = line-is l count buffer (rw (← e, f)) refl
 
 -- more than 256 commands
-pub too-many : (l : HostList) (count : ℕ) (buffer : List ℕ) → mostBytes < count → LineIs l count buffer (LineWritten.Refused 2) buffer
+pub count-refused : (l : HostList) (count : ℕ) (buffer : List ℕ) → mostBytes < count → LineIs l count buffer (LineWritten.Refused 2) buffer
 unfolding codeOf
-too-many l count buffer h = line-refused l count buffer 2 (rw (lt-ltb mostBytes count h)) refl
+count-refused l count buffer h = line-refused l count buffer 2 (rw (lt-ltb mostBytes count h)) refl
 
 pub code-few : (l : HostList) (count : ℕ) → count ≤ mostBytes → codeOf l count ≡ listCode l
 unfolding codeOf
@@ -75,13 +75,17 @@ module _ (l : HostList) (count : ℕ) (buffer : List ℕ) (few : count ≤ mostB
     unfolding answerOf
     taken code e f = rw (← made-code code e, f)
 
+    fit : {b : Bool} → room buffer 0 (length (writtenOf l)) ≡ b
+        → fitted buffer (length (writtenOf l)) ≡ cond b (LineWritten.Bytes (length (writtenOf l))) LineWritten.NoRoom
+    fit e = ap (λ (b : Bool). cond b (LineWritten.Bytes (length (writtenOf l))) LineWritten.NoRoom) e
+
     pub made-put : {after : List ℕ} (code : ℕ) → code ≡ lineCode (take (n - 0) line) → code ≡ 0 → PutIs buffer 0 (take (n - 0) line) true after
         → LineIs l count buffer (LineWritten.Bytes n) after
     made-put code e f p =
         let q = rw made-bytes at p in
         let h : 0 + length (writtenOf l) ≤ length buffer = leb-true _ _ (sym (q .answers)) in
         line-is l count buffer
-        (ap (λ (k : ℕ). LineWritten.Bytes k) made-length ∙ sym (taken code e f ∙ rw (← q .answers)))
+        (ap (λ (k : ℕ). LineWritten.Bytes k) made-length ∙ sym (taken code e f ∙ fit (sym (q .answers))))
         (q .leaves ∙ put-in-room buffer 0 (writtenOf l) h)
 
     pub made-short : {after : List ℕ} (code : ℕ) → code ≡ lineCode (take (n - 0) line) → code ≡ 0 → PutIs buffer 0 (take (n - 0) line) false after
@@ -89,4 +93,4 @@ module _ (l : HostList) (count : ℕ) (buffer : List ℕ) (few : count ≤ mostB
     made-short code e f p =
         let q = rw made-bytes at p in
         let h : length buffer < 0 + length (writtenOf l) = leb-false _ _ (sym (q .answers)) in
-        line-is l count buffer (sym (taken code e f ∙ rw (← q .answers))) (q .leaves ∙ put-in-full buffer 0 (writtenOf l) h)
+        line-is l count buffer (sym (taken code e f ∙ fit (sym (q .answers)))) (q .leaves ∙ put-in-full buffer 0 (writtenOf l) h)

@@ -1,4 +1,5 @@
--- Laws of a turn: the action kept is that of the wait, and a turn ends a run for its causes only, each with its code. Assumes nothing.
+-- Laws of a turn: the action kept is that of the wait, and a turn ends a run for its causes only, each with its code.
+-- Assumes nothing.
 use Prim.Native.Nat.{ℕ, _-_, _<_}
 use mathlib.Core.Path.{_≡_, refl}
 use mathlib.Core.List.{List}
@@ -64,7 +65,8 @@ clash : {A : Type 0} {b : Bool} → b ≡ true → b ≡ false → A
 clash h q = let z : _≡_ {A = ℕ} 0 1 = cc in absurd (omega arith)
 
 -- a motor that stops ends the run with its code, and one that goes on does not
-moved-ends : (P : ℕ → Type 0) (e : Core) (r : Moved) → e .running ≡ true → ((k : ℕ) → r ≡ Stops k → P k) → moved r e .running ≡ false → P (moved r e .code)
+moved-ends : (P : ℕ → Type 0) (e : Core) (r : Moved) → e .running ≡ true → ((k : ℕ) → r ≡ Stops k → P k)
+    → moved r e .running ≡ false → P (moved r e .code)
 unfolding ended
 moved-ends P e (Goes m) h f q = clash h q
 moved-ends P e (Stops k) h f q = f k refl
@@ -73,11 +75,14 @@ moved-stops : (e : Core) (r : Moved) {k : ℕ} → r ≡ Stops k → (moved r e 
 unfolding ended
 moved-stops e r s = rw s (refl, refl)
 
-known-goes : (m : Motor) (r : Moved) {k : ℕ} → m .known ≡ true → r ≡ Stops k → ifKnown m r ≡ Stops k
-known-goes m r h e = rw h e
+-- `A`, `P` or `D`, with the position known and unknown
+known-stop : (e : Core) (m : Motor) (r : Moved) {k : ℕ} → m .known ≡ true → r ≡ Stops k
+    → (moved (ifKnown m r) e .running ≡ false) × (moved (ifKnown m r) e .code ≡ k)
+known-stop e m r h s = moved-stops e (ifKnown m r) (rw h s)
 
-unknown-goes : (m : Motor) (r : Moved) → m .known ≡ false → ifKnown m r ≡ Stops 7
-unknown-goes m r h = rw h
+unknown-stop : (e : Core) (m : Motor) (r : Moved) → m .known ≡ false
+    → (moved (ifKnown m r) e .running ≡ false) × (moved (ifKnown m r) e .code ≡ 7)
+unknown-stop e m r h = moved-stops e (ifKnown m r) (rw h)
 
 module _ (sample ms steps : ℕ) (t image : List ℕ) (c : Core) where
   -- once the report is counted
@@ -108,7 +113,8 @@ module _ (sample ms steps : ℕ) (t image : List ℕ) (c : Core) where
   at-wait h w e f = rw (h, e, f)
 
   -- `A`, `P` or `D`: the position is unknown, or the range would be left
-  move-ends : (a : Act) (next : ℕ) (s : Moved) → Reads t c (At (Plain a) next) → Moving a → ((k : ℕ) → s ≡ Stops k → (k ≡ 11) × Leaving (then .position) a)
+  move-ends : (a : Act) (next : ℕ) (s : Moved) → Reads t c (At (Plain a) next) → Moving a
+      → ((k : ℕ) → s ≡ Stops k → (k ≡ 11) × Leaving (then .position) a)
       → (k : ℕ) → ifKnown then s ≡ Stops k → Ends k
   unfolding reported
   move-ends a next s r m f k e = go (known-stops then s e)
@@ -147,7 +153,8 @@ module _ (sample ms steps : ℕ) (t image : List ℕ) (c : Core) where
   unfolding astray ended
   flow-ends f h s = cases Caused (f .astray) (λ q z. strays (s q)) (λ q z. clash h z)
 
-  skip-ends : (digits next : ℕ) → Reads t c (At (Skip digits) next) → c .running ≡ true → Caused (skipTaken digits t next after)
+  skip-ends : (digits next : ℕ) → Reads t c (At (Skip digits) next) → c .running ≡ true
+      → Caused (skipTaken digits t next after)
   unfolding skipTaken astray ended reported
   skip-ends digits next r h = cases Caused (levelThere digits sample) (λ l. go l (readAt t next) refl) (λ l z. clash h z)
     where
@@ -160,7 +167,8 @@ module _ (sample ms steps : ℕ) (t image : List ℕ) (c : Core) where
   unfolding jumped ended
   jump-ends slot next r h = cases (λ (s : Stepped). Caused (s .core)) (slotGood image slot) (λ q z. clash h z) (λ q z. badSlot slot next r q)
 
-  command-ends : (d : Command) (next : ℕ) → Reads t c (At d next) → c .running ≡ true → Caused (commandTaken d next t image after .core)
+  command-ends : (d : Command) (next : ℕ) → Reads t c (At d next) → c .running ≡ true
+      → Caused (commandTaken d next t image after .core)
   unfolding commandTaken
   command-ends LoopBegin next r h = flow-ends (loopBegun next (c .flow)) h (λ q. tooDeep next r q)
   command-ends (LoopEnd n) next r h = flow-ends (loopEnded n next (c .flow)) h (λ q. noneOpen n next r q)
@@ -174,7 +182,8 @@ module _ (sample ms steps : ℕ) (t image : List ℕ) (c : Core) where
   read-ends (Bad f) r h = λ z. strays (badRead f r)
   read-ends End r h = λ z. textEnds r
 
-  served-ends : (k : ℕ) (w : Wait) → c .motor .wait ≡ w → ServeStops (c .motor .sample) (c .settings .flag) steps then w k → Ends k
+  served-ends : (k : ℕ) (w : Wait) → c .motor .wait ≡ w
+      → ServeStops (c .motor .sample) (c .settings .flag) steps then w k → Ends k
   unfolding reported
   served-ends k w e (stops.rangeEnds up left f z) = rangeEnds up left e f z
   served-ends k w e (stops.notFound away left n f l) = flagNotFound away left n e f l
@@ -202,22 +211,25 @@ module _ (sample ms steps : ℕ) (t image : List ℕ) (c : Core) where
   abbrev Ended : Stepped → ℕ → Type 0
   Ended s k = (s .core .running ≡ false) × (s .core .code ≡ k)
 
-  act-stops : (a : Act) (next k : ℕ) → Reads t c (At (Plain a) next) → c .running ≡ true → (acted a (behind next) .running ≡ false) × (acted a (behind next) .code ≡ k)
+  act-stops : (a : Act) (next k : ℕ) → Reads t c (At (Plain a) next) → c .running ≡ true
+      → (acted a (behind next) .running ≡ false) × (acted a (behind next) .code ≡ k)
       → Ended (stepOf sample ms steps t image c) k
   unfolding readTaken commandTaken
   act-stops a next k r h e = rw (at-command h (At (Plain a) next) r) e
 
-  leaving-stops : (a : Act) (next : ℕ) → c .motor .known ≡ true → Leaving (then .position) a → (acted a (behind next) .running ≡ false) × (acted a (behind next) .code ≡ 11)
+  leaving-stops : (a : Act) (next : ℕ) → c .motor .known ≡ true → Leaving (then .position) a
+      → (acted a (behind next) .running ≡ false) × (acted a (behind next) .code ≡ 11)
   unfolding acted reported
-  leaving-stops a next q (beyond n l z) = moved-stops (behind next) (ifKnown then (absolute n then)) (known-goes then (absolute n then) q (absolute-leaves n then l z))
-  leaving-stops a next q (above n l) = moved-stops (behind next) (ifKnown then (relative true n then)) (known-goes then (relative true n then) q (relative-leaves true n then l))
-  leaving-stops a next q (below n l) = moved-stops (behind next) (ifKnown then (relative false n then)) (known-goes then (relative false n then) q (relative-leaves false n then l))
+  leaving-stops a next q (beyond n l z) = known-stop (behind next) then (absolute n then) q (absolute-leaves n then l z)
+  leaving-stops a next q (above n l) = known-stop (behind next) then (relative true n then) q (relative-leaves true n then l)
+  leaving-stops a next q (below n l) = known-stop (behind next) then (relative false n then) q (relative-leaves false n then l)
 
-  unknown-stops : (a : Act) (next : ℕ) → Moving a → c .motor .known ≡ false → (acted a (behind next) .running ≡ false) × (acted a (behind next) .code ≡ 7)
+  unknown-stops : (a : Act) (next : ℕ) → Moving a → c .motor .known ≡ false
+      → (acted a (behind next) .running ≡ false) × (acted a (behind next) .code ≡ 7)
   unfolding acted reported
-  unknown-stops a next (moveTo n) q = moved-stops (behind next) (ifKnown then (absolute n then)) (unknown-goes then (absolute n then) q)
-  unknown-stops a next (moveUp n) q = moved-stops (behind next) (ifKnown then (relative true n then)) (unknown-goes then (relative true n then) q)
-  unknown-stops a next (moveDown n) q = moved-stops (behind next) (ifKnown then (relative false n then)) (unknown-goes then (relative false n then) q)
+  unknown-stops a next (moveTo n) q = unknown-stop (behind next) then (absolute n then) q
+  unknown-stops a next (moveUp n) q = unknown-stop (behind next) then (relative true n then) q
+  unknown-stops a next (moveDown n) q = unknown-stop (behind next) then (relative false n then) q
 
   strays-end : Strays sample t c → c .running ≡ true → Ended (stepOf sample ms steps t image c) (c .code)
   unfolding readTaken commandTaken skipTaken astray ended reported
@@ -228,28 +240,33 @@ module _ (sample ms steps : ℕ) (t image : List ℕ) (c : Core) where
   strays-end (skipsEnd digits next r l e) h = rw (at-command h (At (Skip digits) next) r, l, e) (refl, refl)
 
   -- each cause ends the run, with its code
-  pub step-each : (k : ℕ) → TurnEnds sample steps t image c k → c .running ≡ true → Ended (stepOf sample ms steps t image c) k
+  pub step-each : (k : ℕ) → TurnEnds sample steps t image c k → c .running ≡ true
+      → Ended (stepOf sample ms steps t image c) k
   unfolding readTaken commandTaken jumped astray ended reported
   step-each k (textEnds r) h = rw (at-command h End r) (refl, refl)
   step-each k (flagNotFound away left n e f l) h =
       rw (at-wait h (Wait.Leg away left n) e refl)
-      (moved-stops after (served (Wait.Leg away left n) (c .motor .sample) (c .settings .flag) ms steps then) (stops-serve ms (stops.notFound away left n f l)))
+      (moved-stops after (served (Wait.Leg away left n) (c .motor .sample) (c .settings .flag) ms steps then)
+      (stops-serve ms (stops.notFound away left n f l)))
   step-each k (badSlot slot next r q) h = rw (at-command h (At (Jump slot) next) r, q) (refl, refl)
   step-each k (unknown a next r m q) h = act-stops a next 7 r h (unknown-stops a next m q)
   step-each k (leavesRange a next r q l) h = act-stops a next 11 r h (leaving-stops a next q l)
   step-each k (rangeEnds goesUp left e f z) h =
       rw (at-wait h (Wait.Move goesUp true left) e refl)
-      (moved-stops after (served (Wait.Move goesUp true left) (c .motor .sample) (c .settings .flag) ms steps then) (stops-serve ms (stops.rangeEnds goesUp left f z)))
+      (moved-stops after (served (Wait.Move goesUp true left) (c .motor .sample) (c .settings .flag) ms steps then)
+      (stops-serve ms (stops.rangeEnds goesUp left f z)))
   step-each k (strays s) h = strays-end s h
 
 -- ---- a whole turn: the text is the current one
 
-pub turn-only : (sample ms steps : ℕ) (text image : List ℕ) (c : Core) → c .running ≡ true → turnCore sample ms steps text image c .core .running ≡ false
+pub turn-only : (sample ms steps : ℕ) (text image : List ℕ) (c : Core) → c .running ≡ true
+    → turnCore sample ms steps text image c .core .running ≡ false
     → TurnEnds sample steps (take (c .flow .length) text) image c (turnCore sample ms steps text image c .core .code)
 unfolding turnCore
 turn-only sample ms steps text image c h = step-only sample ms steps (take (c .flow .length) text) image c h
 
-pub turn-each : (sample ms steps : ℕ) (text image : List ℕ) (c : Core) (k : ℕ) → TurnEnds sample steps (take (c .flow .length) text) image c k → c .running ≡ true
+pub turn-each : (sample ms steps : ℕ) (text image : List ℕ) (c : Core) (k : ℕ)
+    → TurnEnds sample steps (take (c .flow .length) text) image c k → c .running ≡ true
     → (turnCore sample ms steps text image c .core .running ≡ false) × (turnCore sample ms steps text image c .core .code ≡ k)
 unfolding turnCore
 turn-each sample ms steps text image c k e h = step-each sample ms steps (take (c .flow .length) text) image c k e h

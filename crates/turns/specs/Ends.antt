@@ -45,24 +45,31 @@ pub data Strays (sample : ℕ) (t : List ℕ) (c : Core) : Type 0 where
   badRead : (f : Fault) → Reads t c (Bad f) → Strays sample t c
   tooDeep : (next : ℕ) → Reads t c (At LoopBegin next) → loopBegun next (c .flow) .astray ≡ true → Strays sample t c
   noneOpen : (n next : ℕ) → Reads t c (At (LoopEnd n) next) → loopEnded n next (c .flow) .astray ≡ true → Strays sample t c
-  skipsBad : (digits next : ℕ) (f : Fault) → Reads t c (At (Skip digits) next) → levelThere digits sample ≡ true → readAt t next ≡ Bad f → Strays sample t c
-  skipsEnd : (digits next : ℕ) → Reads t c (At (Skip digits) next) → levelThere digits sample ≡ true → readAt t next ≡ End → Strays sample t c
+  skipsBad : (digits next : ℕ) (f : Fault) → Reads t c (At (Skip digits) next) → levelThere digits sample ≡ true
+      → readAt t next ≡ Bad f → Strays sample t c
+  skipsEnd : (digits next : ℕ) → Reads t c (At (Skip digits) next) → levelThere digits sample ≡ true
+      → readAt t next ≡ End → Strays sample t c
 
 -- the turn ends the run of c over the text t with a code; "`T`" alone comes between turns
 pub data TurnEnds (sample steps : ℕ) (t image : List ℕ) (c : Core) : ℕ → Type 0 where
   -- "end of text"
   textEnds : Reads t c End → TurnEnds sample steps t image c (c .code)
   -- "flag not found within a leg (1)"
-  flagNotFound : (away : Bool) (left n : ℕ) → c .motor .wait ≡ Wait.Leg away left n → awaited away (c .settings .flag) sample ≡ false → left ≤ steps
+  flagNotFound : (away : Bool) (left n : ℕ) → c .motor .wait ≡ Wait.Leg away left n
+      → awaited away (c .settings .flag) sample ≡ false → left ≤ steps
       → TurnEnds sample steps t image c 1
   -- "`e` to a slot whose entry or body, unused bytes included, breaks the image's rules (1)"
-  badSlot : (slot next : ℕ) → Reads t c (At (Jump slot) next) → slotGood image slot ≡ false → TurnEnds sample steps t image c 1
+  badSlot : (slot next : ℕ) → Reads t c (At (Jump slot) next) → slotGood image slot ≡ false
+      → TurnEnds sample steps t image c 1
   -- "`A P D` with position unknown (7)"
-  unknown : (a : Act) (next : ℕ) → Reads t c (At (Plain a) next) → Moving a → c .motor .known ≡ false → TurnEnds sample steps t image c 7
+  unknown : (a : Act) (next : ℕ) → Reads t c (At (Plain a) next) → Moving a → c .motor .known ≡ false
+      → TurnEnds sample steps t image c 7
   -- "a finite move that would leave 0 to 2147483647 .. (11)"; "7 comes before 11"
-  leavesRange : (a : Act) (next : ℕ) → Reads t c (At (Plain a) next) → c .motor .known ≡ true → Leaving (positionThen sample steps c) a
+  leavesRange : (a : Act) (next : ℕ) → Reads t c (At (Plain a) next) → c .motor .known ≡ true
+      → Leaving (positionThen sample steps c) a
       → TurnEnds sample steps t image c 11
   -- "or an endless one at its end (11)": "steps count first, then the edge, then the end of the range"
-  rangeEnds : (up : Bool) (left : ℕ) → c .motor .wait ≡ Wait.Move up true left → falls (c .motor .sample) sample ≡ false → room up (positionThen sample steps c) ≡ 0
+  rangeEnds : (up : Bool) (left : ℕ) → c .motor .wait ≡ Wait.Move up true left → falls (c .motor .sample) sample ≡ false
+      → room up (positionThen sample steps c) ≡ 0
       → TurnEnds sample steps t image c 11
   strays : Strays sample t c → TurnEnds sample steps t image c (c .code)

@@ -3,7 +3,7 @@ ghost use mathlib.Core.Path.{_≡_};
 ghost use Prim.Native.Nat.{min};
 ghost use Rattle.commands.specs.Reading.{readAt};
 ghost use Rattle.flow.specs.Flow.{gone};
-ghost use Rattle.turns.specs.Settings.{defaults, withSpeed, withAcceleration, withFlag, withTurned, withMoveCurrent, withHoldCurrent, withExponent, withCorrection, withOutputs, withBaud, exponentKept};
+ghost use Rattle.turns.specs.Settings.{defaults, withSpeed, withAcceleration, withFlag, withTurned, withMoveCurrent, withHoldCurrent, withCorrection, withOutputs, withBaud};
 ghost use Rattle.turns.specs.Turns.{stays, skipTaken, withFlow, withMotor, withSettings, freshCore, started, ended, astray, moved, acted, flowed, skipped, jumped, commandTaken, readTaken, isFree, running, stepOf, settled, turnCore, directionOf, actionAnswered};
 use commands::Act;
 use commands::Command;

@@ -11,6 +11,8 @@ pass-spec =
     (λ c κs. search needs)
     (λ c. search needs)
     (λ c κs. search needs)
-    (λ c. rw (c .go-astray .ensures, ← c .before .before .read-command .ensures) (not-read (c .before .before .read-command .result) _ (c .before .match .keys2)))
+    (λ c.
+    rw (c .go-astray .ensures, ← c .before .before .read-command .ensures)
+    (not-read (c .before .before .read-command .result) _ (c .before .match .keys2)))
     (λ c κs. search needs)
     (λ c. simp (c .go-to .ensures, c .before .before .past .given .1, ← c .before .before .before .before .read-command .ensures)))
