@@ -4,7 +4,7 @@ ghost use Prim.Native.Nat.{_+_, _*_, _<_, _≤_};
 ghost use mathlib.Core.Bool.{_&&_};
 ghost use lib.ListN.{length};
 ghost use lib.Dec.{eqb};
-ghost use Rattle.image.specs.Image.{imageBytes, slots, entryBytes, bodyBytes, wordAt, startOf, entryOf, bodyOf};
+ghost use Rattle.image.specs.Image.{imageBytes, rightLength, slots, entryBytes, bodyBytes, wordAt, startOf, entryOf, bodyOf};
 ghost use Rattle.image.specs.Image.{zeros, goodAt, slotGood, slotText, withEntry, withBody};
 ghost use Rattle.image.specs.Calls.{checkedOf, StoredIs, ClearedIs};
 ghost use Rattle.image.specs.Claims.{ImageClaims};
@@ -56,6 +56,13 @@ pub fn check_image(image: &[u8]) -> Checked
         }
     }
     Checked::Good
+}
+
+// Whether the image has the right length.
+pub fn is_right_length(image: &[u8]) -> bool
+    ensures { λ r. ⌜ r ≡ rightLength (now (image .entry)) ⌝ }
+{
+    image.len() == IMAGE_BYTES
 }
 
 // Whether an image has a slot, and its entry and body are good.
