@@ -9,7 +9,7 @@ use native.Mathlib.Decide.{decLt}
 use lib.ListN.{length, getD, take, length-append, List·getD-append}
 use lib.Dec.{ltb, eqb}
 use borrow.Author.Tests.{leb-true, leb-false, eqb-true, eqb-false, ne-eqb}
-use Rattle.parts.specs.Parts.{room, put}
+use Rattle.parts.specs.Parts.{room, put, same}
 use Rattle.parts.proofs.Laws.{take-put, drop-put, length-put, put-front}
 use Rattle.digits.specs.Decimal.{digitsIn, digitsOf, ascii, decimal}
 use Rattle.digits.proofs.Writing.{decimal-last, decimal-more, length-some}
@@ -22,7 +22,7 @@ use Rattle.commands.proofs.WritingLaws.{spells-itself, spelling-some}
 use Rattle.lines.specs.declared.Slot.{Slot}
 use Rattle.lines.specs.declared.Slot.the-variants.{NoSlot, Into}
 use Rattle.lines.specs.Texts.{mostBytes, structured}
-use Rattle.lines.specs.Bodies.{same, bodyOf, lineCode}
+use Rattle.lines.specs.Bodies.{bodyOf, lineCode}
 use Rattle.lines.specs.Examples.{bytes}
 use Rattle.lines.specs.Lists.{HostList, slotText, commandsText, runText, writtenOf, allInRange, listFault, listCode, list, listOf}
 use Rattle.lines.proofs.ListLaws.{list-law, list-back, spelled-taken}
