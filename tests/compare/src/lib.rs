@@ -1,5 +1,6 @@
 //! One drive's side of the DT protocol, and the host's side, written from
-//! paper 01 ("The work covered and the rules it follows") alone.
+//! paper 01 ("The work covered and the rules it follows") and the decided
+//! readings of its open points, and from nothing else.
 //!
 //! The words in quotes in the comments are the paper's. The model is the
 //! judge in a comparison: [`bench`] speaks the tester's language over it,
