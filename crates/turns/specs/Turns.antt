@@ -61,7 +61,7 @@ started n c = core (begun n) (c .motor) (c .settings) true false 0
 unfoldable pub ended : ℕ → Core → Core
 ended code c = core (c .flow) (stopped (c .motor)) (c .settings) false (c .loaded) code
 
--- what only a text that was never checked could come to: no unit that a fresh start leads to does
+-- what only a text that was never checked could come to: the run ends, the held code stays
 unfoldable pub astray : Core → Core
 astray c = ended (c .code) c
 
