@@ -26,8 +26,9 @@ use Rattle.drive.specs.declared.FeedAnswer.{FeedAnswer}
 use Rattle.drive.specs.declared.Fed.{Fed}
 use Rattle.drive.specs.declared.TurnAnswer.{TurnAnswer}
 use Rattle.drive.specs.declared.TurnedUnit.{TurnedUnit}
-use Rattle.drive.specs.declared.Obeyed.{Obeyed}
-use Rattle.drive.specs.Obeying.{dataOf, frameObeyed, frameImage}
+use Rattle.obeying.specs.declared.Obeyed.{Obeyed}
+use Rattle.obeying.specs.Obeying.{dataOf}
+use Rattle.drive.specs.Framed.{frameObeyed, frameImage}
 
 abbrev pub drive : ℕ → Receiver → List ℕ → Core → Drive
 drive number r text c = record { number = number; receiver = r; text = text; core = c }
@@ -104,6 +105,11 @@ unfoldable pub feedBuffer : Drive → List ℕ → List ℕ → List ℕ → Lis
 feedBuffer u bytes image buffer =
     cond (ltb (length buffer) packetBytes) buffer
     (cond (rightLength image) (bufferAfter (receivedBy u bytes .frame) u bytes buffer) buffer)
+
+-- a packet at the front of a buffer with room for it: its length, and the buffer
+pub record PacketOf (status : ℕ) (bytes buffer : List ℕ) (n : ℕ) (buffer′ : List ℕ) : Type 0 where
+  pub answers : n ≡ length (packet status bytes)
+  pub leaves : buffer′ ≡ putIn buffer 0 (packet status bytes)
 
 -- what a feed call answers and leaves
 pub record FedIs (u : Drive) (bytes image buffer : List ℕ) (r : Fed) (image′ buffer′ : List ℕ) : Type 0 where

@@ -1,2 +1,2 @@
-pub mod Obeying
+pub mod Framed
 pub mod Calls

@@ -1,14 +1,29 @@
 // One drive's side of the DT protocol: the calls that firmware makes.
 ghost use mathlib.Core.Path.{_≡_};
+ghost use mathlib.Core.Bool.{not};
+ghost use Prim.Native.Nat.{_≤_};
+ghost use lib.ListN.{length, take};
 ghost use Rattle.parts.specs.Parts.{paddedText};
+ghost use Rattle.digits.specs.Decimal.{decimal};
 ghost use Rattle.image.specs.Image.{slotText};
 ghost use Rattle.frames.specs.Addresses.{isUnit};
+ghost use Rattle.answers.specs.Packet.{mostData, mostDigits, packetBytes, statusOf};
 ghost use Rattle.turns.specs.Turns.{textAfter};
-ghost use Rattle.drive.specs.Calls.{drive, begunWith, freshUnit, noUnit, startAnswer, startOf, turnRefused, turnTaken, turnOf};
+ghost use Rattle.lines.specs.Texts.{mostBytes};
+ghost use Rattle.obeying.specs.Obeying.{dataOf, ObeyedIs};
+ghost use Rattle.drive.specs.declared.FeedAnswer.{FeedAnswer};
+ghost use Rattle.drive.specs.Framed.{FramedIs};
+ghost use Rattle.drive.specs.Calls.{drive, begunWith, freshUnit, noUnit, startAnswer, startOf, fed, PacketOf, FedIs};
+ghost use Rattle.drive.specs.Calls.{turnRefused, turnTaken, turnOf};
+use digits::Written;
+use frames::Frame;
+use frames::Received;
 use frames::Receiver;
 use image::Checked;
 use motor::Last;
 use motor::Motor;
+use obeying::Obeyed;
+use obeying::Tell;
 use turns::Action;
 use turns::Core;
 use turns::Direction;
@@ -66,21 +81,8 @@ pub struct TurnedUnit {
     pub action: Action,
 }
 
-// The data of an answer.
-enum Tell {
-    Nothing,
-    Number(u32),
-    // The current text.
-    Text,
-}
-
-// What a body makes of a unit, and what is answered.
-struct Obeyed {
-    core: Core,
-    text: [u8; 256],
-    code: u8,
-    tell: Tell,
-}
+// The longest packet.
+const PACKET_BYTES: usize = 262;
 
 // The unit of a number, idle or running program 0 of the image.
 pub fn start(number: u8, image: &[u8]) -> StartedUnit
@@ -148,6 +150,159 @@ fn begin_with(n: usize) -> Core
         return turns::start_run(c, n);
     }
     c
+}
+
+// The bytes of a feed call, up to the end of the first frame for this unit: it is obeyed and, if for it alone, answered.
+pub fn feed(u: Drive, bytes: &[u8], image: &mut [u8], buffer: &mut [u8]) -> Fed
+    ensures { λ r. ⌜ FedIs u (now (bytes .entry)) (now (image .entry)) (now (buffer .entry)) r (now (image .exit)) (now (buffer .exit)) ⌝ }
+{
+    if buffer.len() < PACKET_BYTES {
+        return refuse_feed(FeedAnswer::BufferShort, u);
+    }
+    if !image::is_right_length(image) {
+        return refuse_feed(FeedAnswer::ImageLength, u);
+    }
+    let receiver = u.receiver;
+    let got = frames::receive(receiver, u.number, bytes);
+    let frame = got.frame;
+    match frame {
+        Frame::Nothing => after_bytes(u, got),
+        Frame::Alone => {
+            let o = obey_frame(u, got, image);
+            let n = answer_frame(o, buffer);
+            after_frame(u, got, o, n)
+        }
+        Frame::Group => {
+            let o = obey_frame(u, got, image);
+            after_frame(u, got, o, 0)
+        }
+    }
+}
+
+// Nothing is consumed, and nothing changes.
+fn refuse_feed(answer: FeedAnswer, u: Drive) -> Fed
+    ensures { λ r. ⌜ r ≡ fed answer u 0 0 ⌝ }
+{
+    Fed {
+        answer: answer,
+        unit: u,
+        consumed: 0,
+        answered: 0,
+    }
+}
+
+// No frame for this unit was completed.
+fn after_bytes(u: Drive, got: Received) -> Fed
+    ensures { λ r. ⌜ r ≡ fed FeedAnswer.Taken (drive (u .number) (got .receiver) (u .text) (u .core)) (got .consumed) 0 ⌝ }
+{
+    let receiver = got.receiver;
+    let mut v = u;
+    v.receiver = receiver;
+    Fed {
+        answer: FeedAnswer::Taken,
+        unit: v,
+        consumed: got.consumed,
+        answered: 0,
+    }
+}
+
+// A frame was completed and obeyed.
+fn after_frame(u: Drive, got: Received, o: Obeyed, answered: usize) -> Fed
+    ensures { λ r. ⌜ r ≡ fed FeedAnswer.Taken (drive (u .number) (got .receiver) (o .text) (o .core)) (got .consumed) answered ⌝ }
+{
+    let receiver = got.receiver;
+    let text = o.text;
+    let core = o.core;
+    let mut v = u;
+    v.receiver = receiver;
+    v.text = text;
+    v.core = core;
+    Fed {
+        answer: FeedAnswer::Taken,
+        unit: v,
+        consumed: got.consumed,
+        answered: answered,
+    }
+}
+
+// The frame that a unit has received, obeyed; of a body over 256 bytes not all are kept.
+fn obey_frame(u: Drive, got: Received, image: &mut [u8]) -> Obeyed
+    ensures { λ o. ⌜ FramedIs (got .receiver) (u .core) (u .text) (now (image .entry)) o (now (image .exit)) ⌝ }
+{
+    let r = got.receiver;
+    let core = u.core;
+    let text = u.text;
+    if 256 < r.length {
+        return obeying::refuse(core, text, 2);
+    }
+    let body = r.body;
+    obey_body(body, r.length, core, text, image)
+}
+
+// The first bytes of an array as a body.
+fn obey_body(body: [u8; 256], n: usize, c: Core, text: [u8; 256], image: &mut [u8]) -> Obeyed
+    requires { ⌜ n ≤ mostBytes ⌝ }
+    ensures { λ o. ⌜ ObeyedIs c text (take n body) (now (image .entry)) o (now (image .exit)) ⌝ }
+{
+    obeying::obey(c, text, &body[0..n], image)
+}
+
+// The packet that answers a frame, at the front of the buffer: its length.
+fn answer_frame(o: Obeyed, buffer: &mut [u8]) -> usize
+    requires { ⌜ packetBytes ≤ length (now buffer) ⌝ }
+    ensures { λ n. ⌜ PacketOf (statusOf (not (o .core .running)) (o .code)) (dataOf (o .tell) (o .core .flow .length) (o .text)) (now (buffer .entry)) n (now (buffer .exit)) ⌝ }
+{
+    let c = o.core;
+    let f = c.flow;
+    let text = o.text;
+    let status = answers::status(!c.running, o.code);
+    let tell = o.tell;
+    match tell {
+        Tell::Nothing => write_text(buffer, status, text, 0),
+        Tell::Number(k) => write_number(buffer, status, k),
+        Tell::Text => write_text(buffer, status, text, f.length),
+    }
+}
+
+// A number as data.
+fn write_number(buffer: &mut [u8], status: u8, k: u32) -> usize
+    requires { ⌜ packetBytes ≤ length (now buffer) ⌝ }
+    ensures { λ n. ⌜ PacketOf status (decimal k) (now (buffer .entry)) n (now (buffer .exit)) ⌝ }
+{
+    let d = answers::number_data(k);
+    let digits = d.bytes;
+    let n = d.length;
+    write_digits(buffer, status, digits, n)
+}
+
+// The first bytes of an array as data.
+fn write_digits(buffer: &mut [u8], status: u8, digits: [u8; 10], count: usize) -> usize
+    requires { ⌜ (packetBytes ≤ length (now buffer)) × (count ≤ mostDigits) ⌝ }
+    ensures { λ n. ⌜ PacketOf status (take count digits) (now (buffer .entry)) n (now (buffer .exit)) ⌝ }
+{
+    write_bytes(buffer, status, &digits[0..count])
+}
+
+// The current text as data: no record keeps more than its 256 bytes.
+fn write_text(buffer: &mut [u8], status: u8, text: [u8; 256], count: usize) -> usize
+    requires { ⌜ packetBytes ≤ length (now buffer) ⌝ }
+    ensures { λ n. ⌜ PacketOf status (take count text) (now (buffer .entry)) n (now (buffer .exit)) ⌝ }
+{
+    if 256 < count {
+        return write_bytes(buffer, status, &text[0..256]);
+    }
+    write_bytes(buffer, status, &text[0..count])
+}
+
+// Data that a packet may have: there is room for it.
+fn write_bytes(buffer: &mut [u8], status: u8, bytes: &[u8]) -> usize
+    requires { ⌜ (packetBytes ≤ length (now buffer)) × (length (now bytes) ≤ mostData) ⌝ }
+    ensures { λ n. ⌜ PacketOf status (now (bytes .entry)) (now (buffer .entry)) n (now (buffer .exit)) ⌝ }
+{
+    let Written::Past(n) = answers::write_packet(buffer, status, bytes) else {
+        return 0;
+    };
+    n
 }
 
 // One turn: the report counted, then a wait served or a command taken.

@@ -3,26 +3,23 @@
 use Prim.Native.Nat.{ℕ, _^_, min}
 use mathlib.Core.List.{List, []}
 use mathlib.Core.Bool.{Bool, true, false, cond}
+use mathlib.Core.Path.{_≡_}
 use lib.ListN.{length, take}
-use lib.Dec.{ltb}
 use Rattle.parts.specs.Parts.{part, paddedText}
 use Rattle.digits.specs.Decimal.{decimal}
-use Rattle.commands.specs.Reading.{fault}
 use Rattle.lines.specs.declared.Immediate.{Immediate}
 use Rattle.lines.specs.declared.Immediate.the-variants.{Terminate, Status, CurrentText, Position, Speed, Sample, StepSize, Correction, Clear}
 use Rattle.lines.specs.declared.Body.{Body}
 use Rattle.lines.specs.declared.Taken.{Taken}
-use Rattle.lines.specs.Texts.{mostBytes}
 use Rattle.lines.specs.Bodies.{bodyOf, lineOf}
-use Rattle.image.specs.Image.{withText, emptyImage}
+use Rattle.image.specs.Calls.{afterStore, afterClear}
 use Rattle.flow.specs.Flow.{begun}
 use Rattle.motor.specs.declared.Wait.{Wait}
 use Rattle.motor.specs.Motion.{waiting, waitsInput}
 use Rattle.turns.specs.declared.Core.{Core}
 use Rattle.turns.specs.Turns.{core, withMotor, started, ended}
-use Rattle.frames.specs.declared.Receiver.{Receiver}
-use Rattle.drive.specs.declared.Tell.{Tell}
-use Rattle.drive.specs.declared.Obeyed.{Obeyed}
+use Rattle.obeying.specs.declared.Tell.{Tell}
+use Rattle.obeying.specs.declared.Obeyed.{Obeyed}
 
 -- ---- data
 
@@ -72,12 +69,14 @@ immediateObeyed Clear c text = held c text
 abbrev pub busy : ℕ
 busy = 15
 
--- "`R` alone ends a wait at `H`; when idle it runs a loaded line not yet run, else does nothing"
+-- "`R` alone ends a wait at `H`"
+abbrev pub resumed : Core → List ℕ → Obeyed
+resumed c text =
+    cond (waitsInput (c .motor .wait)) (held (withMotor (waiting Wait.Nothing (c .motor)) c) text) (refused busy c text)
+
+-- "when idle it runs a loaded line not yet run, else does nothing"
 abbrev pub runObeyed : Core → List ℕ → Obeyed
-runObeyed c text =
-    cond (c .running)
-    (cond (waitsInput (c .motor .wait)) (held (withMotor (waiting Wait.Nothing (c .motor)) c) text) (refused busy c text))
-    (held (cond (c .loaded) (started (c .flow .length) c) c) text)
+runObeyed c text = cond (c .running) (resumed c text) (held (cond (c .loaded) (started (c .flow .length) c) c) text)
 
 -- "`X` alone, when idle, runs the current text again"
 abbrev pub againObeyed : Core → List ℕ → Obeyed
@@ -87,10 +86,14 @@ againObeyed c text = cond (c .running) (refused busy c text) (held (started (c .
 unfoldable pub loadedAs : ℕ → Core → Core
 loadedAs n c = core (begun n) (c .motor) (c .settings) false true (c .code)
 
--- "With `R` it runs .. either way its commands .. become the current text"; a store "starts no run and leaves the current text"
+-- "With `R` it runs"
+abbrev pub loadedFor : Bool → ℕ → Core → Core
+loadedFor run n c = cond run (started n c) (loadedAs n c)
+
+-- "either way its commands .. become the current text"; a store "starts no run and leaves the current text"
 abbrev pub lineObeyed : Taken → List ℕ → Core → List ℕ → Obeyed
 lineObeyed (Taken.Refused f) body c text = refused (f .code) c text
-lineObeyed (Taken.Line n run) body c text = held (cond run (started n c) (loadedAs n c)) (paddedText (take n body))
+lineObeyed (Taken.Line n run) body c text = held (loadedFor run n c) (paddedText (take n body))
 lineObeyed (Taken.Store slot at n) body c text = held c text
 
 -- "running, and not immediate nor a resuming `R`" comes before the reading
@@ -119,12 +122,12 @@ immediateImage Speed image = image
 immediateImage Sample image = image
 immediateImage StepSize image = image
 immediateImage Correction image = image
-immediateImage Clear image = emptyImage
+immediateImage Clear image = afterClear image
 
 abbrev pub lineImage : Taken → List ℕ → List ℕ → List ℕ
 lineImage (Taken.Refused f) body image = image
 lineImage (Taken.Line n run) body image = image
-lineImage (Taken.Store slot at n) body image = withText image slot (part body at n)
+lineImage (Taken.Store slot at n) body image = afterStore image slot (part body at n)
 
 abbrev pub lineOrBusyImage : List ℕ → Bool → List ℕ → List ℕ
 lineOrBusyImage body running image = cond running image (lineImage (lineOf body) body image)
@@ -140,16 +143,12 @@ kindImage Body.Line body running image = lineOrBusyImage body running image
 unfoldable pub bodyImage : List ℕ → Bool → List ℕ → List ℕ
 bodyImage body running image = kindImage (bodyOf body) body running image
 
--- ---- the body that a receiver has completed; "body over 256 bytes (2)": of such a one not all bytes are kept
+-- what a body is answered with, and what it leaves of the image
+pub record ObeyedIs (c : Core) (text body image : List ℕ) (answer : Obeyed) (after : List ℕ) : Type 0 where
+  pub answers : answer ≡ bodyObeyed body c text
+  pub leaves : after ≡ bodyImage body (c .running) image
 
-abbrev pub bodyIn : Receiver → List ℕ
-bodyIn r = take (r .length) (r .body)
-
-abbrev pub tooLong : Receiver → Bool
-tooLong r = ltb mostBytes (r .length)
-
-unfoldable pub frameObeyed : Receiver → Core → List ℕ → Obeyed
-frameObeyed r c text = cond (tooLong r) (refused 2 c text) (bodyObeyed (bodyIn r) c text)
-
-unfoldable pub frameImage : Receiver → Bool → List ℕ → List ℕ
-frameImage r running image = cond (tooLong r) image (bodyImage (bodyIn r) running image)
+-- the same of a line
+pub record LineIs (c : Core) (text body image : List ℕ) (answer : Obeyed) (after : List ℕ) : Type 0 where
+  pub answers : answer ≡ lineOrBusy body c text
+  pub leaves : after ≡ lineOrBusyImage body (c .running) image
