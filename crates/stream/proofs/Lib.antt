@@ -1,0 +1,9 @@
+pub mod WalkLaws
+pub mod CourseLaws
+pub mod ObeyLaws
+pub mod TurnLaws
+pub mod FitLaws
+pub mod ImageLaws
+pub mod DeliveryLaws
+pub mod ByteLaws
+pub mod ForeignLaws
