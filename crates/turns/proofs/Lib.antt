@@ -1,2 +1,3 @@
 pub mod ElseLaws
+pub mod MoveLaws
 pub mod TurnLaws

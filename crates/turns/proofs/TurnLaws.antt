@@ -1,14 +1,11 @@
 -- Laws of a turn: the action kept is that of the wait, and a turn ends a run for its causes only, each with its code.
 -- Assumes nothing.
-use Prim.Native.Nat.{ℕ, _-_, _<_}
+use Prim.Native.Nat.{ℕ}
 use mathlib.Core.Path.{_≡_, refl}
 use mathlib.Core.List.{List}
-use mathlib.Core.Bool.{Bool, true, false}
+use mathlib.Core.Bool.{true, false}
 use mathlib.Core.Logic.{_⊎_, inl, inr}
-use native.Mathlib.Omega.{arith}
 use lib.ListN.{take}
-use lib.Dec.{ltb, eqb}
-use borrow.Author.Tests.{le-ltb, ne-eqb}
 use Rattle.parts.proofs.Laws.{cases}
 use Rattle.commands.specs.declared.Command.{Command}
 use Rattle.commands.specs.declared.Command.the-variants.{LoopBegin, LoopEnd, Skip, Jump, Plain}
@@ -16,7 +13,6 @@ use Rattle.commands.specs.declared.Act.{Act}
 use Rattle.commands.specs.declared.Act.the-variants.{MoveTo, MoveUp, MoveDown, SetPosition, Home, TopSpeed, Acceleration, FlagLevel, Turned, MoveCurrent, HoldCurrent, StepSize, Correction, Outputs, Baud, Delay, WaitInput}
 use Rattle.commands.specs.declared.Read.{Read}
 use Rattle.commands.specs.declared.Read.the-variants.{At, Bad, End}
-use Rattle.commands.specs.Table.{top}
 use Rattle.commands.specs.Reading.{readAt}
 use Rattle.image.specs.Image.{slotGood}
 use Rattle.flow.specs.declared.Flowed.{Flowed}
@@ -24,15 +20,16 @@ use Rattle.flow.specs.Flow.{gone, loopBegun, loopEnded}
 use Rattle.motor.specs.declared.Wait.{Wait}
 use Rattle.motor.specs.declared.Motor.{Motor}
 use Rattle.motor.specs.declared.Moved.{Moved}
-use Rattle.motor.specs.declared.Moved.the-variants.{Goes, Stops}
+use Rattle.motor.specs.declared.Moved.the-variants.{Stops}
 use Rattle.motor.specs.Inputs.{levelThere}
-use Rattle.motor.specs.Motion.{room, reported, actionOf, relative, absolute, ifKnown, served}
+use Rattle.motor.specs.Motion.{reported, actionOf, relative, absolute, ifKnown, served}
 use Rattle.motor.proofs.StopLaws as stops
-use Rattle.motor.proofs.StopLaws.{ServeStops, finite-stops, finite-leaves, relative-stops, relative-leaves, known-stops, serve-stops, stops-serve}
+use Rattle.motor.proofs.StopLaws.{ServeStops, relative-stops, relative-leaves, known-stops, serve-stops, stops-serve}
 use Rattle.turns.specs.declared.Core.{Core}
 use Rattle.turns.specs.declared.Stepped.{Stepped}
 use Rattle.turns.specs.Turns.{withFlow, withMotor, ended, astray, moved, acted, flowed, skipped, stays, jumped, skipTaken, commandTaken, readTaken, isFree, running, stepOf, turnCore}
-use Rattle.turns.specs.Ends.{Moving, moveTo, moveUp, moveDown, Leaving, beyond, above, below, Reads, Strays, badRead, tooDeep, noneOpen, skipsBad, skipsEnd, TurnEnds, textEnds, flagNotFound, badSlot, unknown, leavesRange, rangeEnds, strays}
+use Rattle.turns.specs.Ends.{Moving, moveTo, moveUp, moveDown, Leaving, beyond, above, below, Reads, Strays, badRead, tooDeep, noneOpen, skipsBad, skipsEnd, TurnEnds, textEnds, flagNotFound, badSlot, unknown, leavesRange, rangeEnds}
+use Rattle.turns.proofs.MoveLaws.{absolute-stops, absolute-leaves, clash, moved-ends, moved-stops, known-stop, unknown-stop}
 
 -- "and answers the next motor action": the action kept is that of the wait
 pub turn-last : (sample ms steps : ℕ) (text image : List ℕ) (c : Core)
@@ -40,49 +37,12 @@ pub turn-last : (sample ms steps : ℕ) (text image : List ℕ) (c : Core)
 unfolding turnCore
 turn-last sample ms steps text image c = refl
 
--- ---- `A`, whatever its number
-
-pub absolute-stops : (n : ℕ) (m : Motor) {k : ℕ} → absolute n m ≡ Stops k → (k ≡ 11) × (m .position < n) × (top < n)
-unfolding absolute room
-absolute-stops n m {k} =
-    cases (λ (r : Moved). r ≡ Stops k → (k ≡ 11) × (m .position < n) × (top < n)) (eqb n (m .position))
-    (λ q e. absurd (never e))
-    (λ q. cases (λ (r : Moved). r ≡ Stops k → (k ≡ 11) × (m .position < n) × (top < n)) (ltb n (m .position))
-    (λ l e. let h = finite-stops false (m .position - n) m e .1 in absurd (omega arith))
-    (λ l e. let h = finite-stops true (n - m .position) m e in (h .0, omega (arith, h .1), omega (arith, h .1))))
-  where
-    never : Goes m ≡ Stops k → ⊥
-    never e = let z : _≡_ {A = ℕ} 0 1 = cc in omega arith
-
-pub absolute-leaves : (n : ℕ) (m : Motor) → m .position < n → top < n → absolute n m ≡ Stops 11
-unfolding absolute room
-absolute-leaves n m h l =
-    rw (ne-eqb n (m .position) (λ e. omega arith), le-ltb n (m .position) (omega arith)) (finite-leaves true (n - m .position) m (omega arith))
-
 -- ---- only for a cause, and each cause does
 
-clash : {A : Type 0} {b : Bool} → b ≡ true → b ≡ false → A
-clash h q = let z : _≡_ {A = ℕ} 0 1 = cc in absurd (omega arith)
-
--- a motor that stops ends the run with its code, and one that goes on does not
-moved-ends : (P : ℕ → Type 0) (e : Core) (r : Moved) → e .running ≡ true → ((k : ℕ) → r ≡ Stops k → P k)
-    → moved r e .running ≡ false → P (moved r e .code)
-unfolding ended
-moved-ends P e (Goes m) h f q = clash h q
-moved-ends P e (Stops k) h f q = f k refl
-
-moved-stops : (e : Core) (r : Moved) {k : ℕ} → r ≡ Stops k → (moved r e .running ≡ false) × (moved r e .code ≡ k)
-unfolding ended
-moved-stops e r s = rw s (refl, refl)
-
--- `A`, `P` or `D`, with the position known and unknown
-known-stop : (e : Core) (m : Motor) (r : Moved) {k : ℕ} → m .known ≡ true → r ≡ Stops k
-    → (moved (ifKnown m r) e .running ≡ false) × (moved (ifKnown m r) e .code ≡ k)
-known-stop e m r h s = moved-stops e (ifKnown m r) (rw h s)
-
-unknown-stop : (e : Core) (m : Motor) (r : Moved) → m .known ≡ false
-    → (moved (ifKnown m r) e .running ≡ false) × (moved (ifKnown m r) e .code ≡ 7)
-unknown-stop e m r h = moved-stops e (ifKnown m r) (rw h)
+-- how a turn comes to end the run of c over the text t with the code k: for a cause with that code, or astray, which leaves the held code
+pub data EndedBy (sample steps : ℕ) (t image : List ℕ) (c : Core) (k : ℕ) : Type 0 where
+  cause : TurnEnds sample steps t image c k → EndedBy sample steps t image c k
+  straying : Strays sample t c → k ≡ c .code → EndedBy sample steps t image c k
 
 module _ (sample ms steps : ℕ) (t image : List ℕ) (c : Core) where
   -- once the report is counted
@@ -97,13 +57,14 @@ module _ (sample ms steps : ℕ) (t image : List ℕ) (c : Core) where
   behind next = withFlow (gone next (c .flow)) after
 
   abbrev Ends : ℕ → Type 0
-  Ends k = TurnEnds sample steps t image c k
+  Ends k = EndedBy sample steps t image c k
 
-  -- e, where it has ended, has ended for a cause
+  -- e, where it has ended, has ended for a cause or astray
   abbrev Caused : Core → Type 0
   Caused e = e .running ≡ false → Ends (e .code)
 
-  at-command : c .running ≡ true → (r : Read) → Reads t c r → stepOf sample ms steps t image c ≡ readTaken r t image after
+  -- "takes exactly one command", the report counted first
+  pub at-command : c .running ≡ true → (r : Read) → Reads t c r → stepOf sample ms steps t image c ≡ readTaken r t image after
   unfolding stepOf running reported
   at-command h r e = rw (h, e .free, e .stands)
 
@@ -120,8 +81,8 @@ module _ (sample ms steps : ℕ) (t image : List ℕ) (c : Core) where
   move-ends a next s r m f k e = go (known-stops then s e)
     where
       go : ((c .motor .known ≡ false) × (k ≡ 7)) ⊎ ((c .motor .known ≡ true) × (s ≡ Stops k)) → Ends k
-      go (inl u) = rw (u .1) (unknown a next r m (u .0))
-      go (inr u) = let l = f k (u .1) in rw (l .0) (leavesRange a next r (u .0) (l .1))
+      go (inl u) = rw (u .1) (cause (unknown a next r m (u .0)))
+      go (inr u) = let l = f k (u .1) in rw (l .0) (cause (leavesRange a next r (u .0) (l .1)))
 
   act-ends : (a : Act) (next : ℕ) → Reads t c (At (Plain a) next) → c .running ≡ true → Caused (acted a (behind next))
   unfolding acted
@@ -151,7 +112,7 @@ module _ (sample ms steps : ℕ) (t image : List ℕ) (c : Core) where
 
   flow-ends : (f : Flowed) → c .running ≡ true → (f .astray ≡ true → Strays sample t c) → Caused (flowed f after)
   unfolding astray ended
-  flow-ends f h s = cases Caused (f .astray) (λ q z. strays (s q)) (λ q z. clash h z)
+  flow-ends f h s = cases Caused (f .astray) (λ q z. straying (s q) refl) (λ q z. clash h z)
 
   skip-ends : (digits next : ℕ) → Reads t c (At (Skip digits) next) → c .running ≡ true
       → Caused (skipTaken digits t next after)
@@ -160,12 +121,12 @@ module _ (sample ms steps : ℕ) (t image : List ℕ) (c : Core) where
     where
       go : levelThere digits sample ≡ true → (x : Read) → readAt t next ≡ x → Caused (skipped x after)
       go l (At d past) e z = clash h z
-      go l (Bad f) e z = strays (skipsBad digits next f r l e)
-      go l End e z = strays (skipsEnd digits next r l e)
+      go l (Bad f) e z = straying (skipsBad digits next f r l e) refl
+      go l End e z = straying (skipsEnd digits next r l e) refl
 
   jump-ends : (slot next : ℕ) → Reads t c (At (Jump slot) next) → c .running ≡ true → Caused (jumped slot image after .core)
   unfolding jumped ended
-  jump-ends slot next r h = cases (λ (s : Stepped). Caused (s .core)) (slotGood image slot) (λ q z. clash h z) (λ q z. badSlot slot next r q)
+  jump-ends slot next r h = cases (λ (s : Stepped). Caused (s .core)) (slotGood image slot) (λ q z. clash h z) (λ q z. cause (badSlot slot next r q))
 
   command-ends : (d : Command) (next : ℕ) → Reads t c (At d next) → c .running ≡ true
       → Caused (commandTaken d next t image after .core)
@@ -179,16 +140,16 @@ module _ (sample ms steps : ℕ) (t image : List ℕ) (c : Core) where
   read-ends : (r : Read) → Reads t c r → c .running ≡ true → Caused (readTaken r t image after .core)
   unfolding readTaken astray ended
   read-ends (At d next) r h = command-ends d next r h
-  read-ends (Bad f) r h = λ z. strays (badRead f r)
-  read-ends End r h = λ z. textEnds r
+  read-ends (Bad f) r h = λ z. straying (badRead f r) refl
+  read-ends End r h = λ z. cause (textEnds r)
 
   served-ends : (k : ℕ) (w : Wait) → c .motor .wait ≡ w
       → ServeStops (c .motor .sample) (c .settings .flag) steps then w k → Ends k
   unfolding reported
-  served-ends k w e (stops.rangeEnds up left f z) = rangeEnds up left e f z
-  served-ends k w e (stops.notFound away left n f l) = flagNotFound away left n e f l
+  served-ends k w e (stops.rangeEnds up left f z) = cause (rangeEnds up left e f z)
+  served-ends k w e (stops.notFound away left n f l) = cause (flagNotFound away left n e f l)
 
-  -- a run that a turn ends has had a cause
+  -- a run that a turn ends has had a cause, or has gone astray
   pub step-only : c .running ≡ true → Caused (stepOf sample ms steps t image c .core)
   step-only h = go (c .motor .wait) refl
     where
@@ -231,7 +192,8 @@ module _ (sample ms steps : ℕ) (t image : List ℕ) (c : Core) where
   unknown-stops a next (moveUp n) q = unknown-stop (behind next) then (relative true n then) q
   unknown-stops a next (moveDown n) q = unknown-stop (behind next) then (relative false n then) q
 
-  strays-end : Strays sample t c → c .running ≡ true → Ended (stepOf sample ms steps t image c) (c .code)
+  -- going astray ends the run too, and leaves the held code
+  pub strays-end : Strays sample t c → c .running ≡ true → Ended (stepOf sample ms steps t image c) (c .code)
   unfolding readTaken commandTaken skipTaken astray ended reported
   strays-end (badRead f r) h = rw (at-command h (Bad f) r) (refl, refl)
   strays-end (tooDeep next r q) h = rw (at-command h (At LoopBegin next) r, q) (refl, refl)
@@ -242,7 +204,7 @@ module _ (sample ms steps : ℕ) (t image : List ℕ) (c : Core) where
   -- each cause ends the run, with its code
   pub step-each : (k : ℕ) → TurnEnds sample steps t image c k → c .running ≡ true
       → Ended (stepOf sample ms steps t image c) k
-  unfolding readTaken commandTaken jumped astray ended reported
+  unfolding readTaken commandTaken jumped ended reported
   step-each k (textEnds r) h = rw (at-command h End r) (refl, refl)
   step-each k (flagNotFound away left n e f l) h =
       rw (at-wait h (Wait.Leg away left n) e refl)
@@ -255,13 +217,12 @@ module _ (sample ms steps : ℕ) (t image : List ℕ) (c : Core) where
       rw (at-wait h (Wait.Move goesUp true left) e refl)
       (moved-stops after (served (Wait.Move goesUp true left) (c .motor .sample) (c .settings .flag) ms steps then)
       (stops-serve ms (stops.rangeEnds goesUp left f z)))
-  step-each k (strays s) h = strays-end s h
 
 -- ---- a whole turn: the text is the current one
 
 pub turn-only : (sample ms steps : ℕ) (text image : List ℕ) (c : Core) → c .running ≡ true
     → turnCore sample ms steps text image c .core .running ≡ false
-    → TurnEnds sample steps (take (c .flow .length) text) image c (turnCore sample ms steps text image c .core .code)
+    → EndedBy sample steps (take (c .flow .length) text) image c (turnCore sample ms steps text image c .core .code)
 unfolding turnCore
 turn-only sample ms steps text image c h = step-only sample ms steps (take (c .flow .length) text) image c h
 

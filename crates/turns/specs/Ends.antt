@@ -50,7 +50,7 @@ pub data Strays (sample : ℕ) (t : List ℕ) (c : Core) : Type 0 where
   skipsEnd : (digits next : ℕ) → Reads t c (At (Skip digits) next) → levelThere digits sample ≡ true
       → readAt t next ≡ End → Strays sample t c
 
--- the turn ends the run of c over the text t with a code; "`T`" alone comes between turns
+-- the turn ends the run of c over the text t for a cause, with its code; "`T`" alone comes between turns
 pub data TurnEnds (sample steps : ℕ) (t image : List ℕ) (c : Core) : ℕ → Type 0 where
   -- "end of text"
   textEnds : Reads t c End → TurnEnds sample steps t image c (c .code)
@@ -72,4 +72,3 @@ pub data TurnEnds (sample steps : ℕ) (t image : List ℕ) (c : Core) : ℕ →
   rangeEnds : (up : Bool) (left : ℕ) → c .motor .wait ≡ Wait.Move up true left → falls (c .motor .sample) sample ≡ false
       → room up (positionThen sample steps c) ≡ 0
       → TurnEnds sample steps t image c 11
-  strays : Strays sample t c → TurnEnds sample steps t image c (c .code)

@@ -1,0 +1,53 @@
+-- Every unit that a fresh start leads to is sound, and a sound unit never goes astray. Assumes nothing.
+use Prim.Native.Nat.{ℕ, _≤_}
+use mathlib.Core.Path.{_≡_}
+use mathlib.Core.Bool.{Bool, true, false, false≢true}
+use Rattle.lines.proofs.LoopLaws.{lawful}
+use Rattle.flow.proofs.FlowLaws.{depth-most, exactly, no-fault, begin-goes, end-goes}
+use Rattle.motor.specs.Motion.{room, counted, reported}
+use Rattle.motor.proofs.MotorLaws.{nothing-cut}
+use Rattle.motor.proofs.RoomLaws.{counted-up, counted-down}
+use Rattle.turns.specs.Ends.{Strays, badRead, tooDeep, noneOpen, skipsBad, skipsEnd}
+use Rattle.drive.specs.declared.Drive.{Drive}
+use Rattle.runs.specs.Reach.{Call, Feed, Turn, after, Reached, fresh, called, textOf}
+use Rattle.runs.specs.Claims.{movedBy, NeverAstray}
+use Rattle.runs.proofs.SoundLaws.{SoundUnit, start-sound}
+use Rattle.runs.proofs.FeedLaws.{feed-sound}
+use Rattle.runs.proofs.TurnLaws.{turn-sound}
+
+-- every call, refused or not, leaves a sound unit sound
+call-sound : (u : Drive) (c : Call) → SoundUnit u → SoundUnit (after c u)
+call-sound u (Feed bytes image buffer) h = feed-sound u bytes image buffer h
+call-sound u (Turn sample ms steps image) h = turn-sound u sample ms steps image h
+
+pub reached-sound : {u : Drive} → Reached u → SoundUnit u
+reached-sound (fresh number image e) = start-sound number image e
+reached-sound (called {u} c r) = call-sound u c (reached-sound r)
+
+-- what is counted is counted whole where there is room for it
+counted-whole : (up : Bool) (p steps : ℕ) → steps ≤ room up p → counted up p steps ≡ movedBy up p steps
+counted-whole true p steps h = counted-up p steps h
+counted-whole false p steps h = counted-down p steps h
+
+module _ (u : Drive) (h : SoundUnit u) where
+  -- a checked text comes to none of it
+  pub not-astray : (sample : ℕ) → Strays sample (textOf u) (u .core) → ⊥
+  not-astray sample (badRead f r) = no-fault (h .flow) (r .stands)
+  not-astray sample (tooDeep next r q) = false≢true (rw (begin-goes (h .flow) (r .stands)) at q)
+  not-astray sample (noneOpen n next r q) = false≢true (rw (end-goes (h .flow) (r .stands)) at q)
+  not-astray sample (skipsBad digits next f r l e) = rw (r .stands, e) at (lawful (h .flow .checked) (h .flow .place))
+  not-astray sample (skipsEnd digits next r l e) = rw (r .stands, e) at (lawful (h .flow .checked) (h .flow .place))
+
+  pub never-astray : NeverAstray u
+  unfolding room reported
+  never-astray = record {
+    checked = h .flow .checked;
+    stands = h .flow .place;
+    exactly = exactly (h .flow);
+    at-most-four = depth-most (h .flow);
+    in-range = h .motor .inRange;
+    down-whole = λ steps c d l. rw d at (nothing-cut (h .motor) c l);
+    counted-whole = λ sample steps c l. rw c (counted-whole (u .core .motor .last .up) (u .core .motor .position) steps (nothing-cut (h .motor) c l));
+    code-0 = h .code-0;
+    not-astray = not-astray;
+  }

@@ -1,0 +1,13 @@
+pub mod SoundLaws
+pub mod CallLaws
+pub mod FeedLaws
+pub mod StepLaws
+pub mod TurnLaws
+pub mod AstrayLaws
+pub mod EndLaws
+pub mod CommandLaws
+pub mod PrintLaws
+pub mod KeepLaws
+pub mod FitLaws
+pub mod ToldLaws
+pub mod PacketLaws
