@@ -11,10 +11,7 @@ use Rattle.parts.specs.Parts.{same}
 use Rattle.lines.specs.Examples.{bytes}
 use Rattle.image.specs.Image.{emptyImage}
 use Rattle.answers.specs.Packet.{packetBytes}
-use Rattle.ramp.specs.declared.Figures.{Figures}
 use Rattle.ramp.specs.Ramp.{figuresOf}
-use Rattle.drive.specs.declared.StartedUnit.{StartedUnit}
-use Rattle.drive.specs.declared.Fed.{Fed}
 use Rattle.drive.specs.Calls.{startOf, feedBuffer}
 use Rattle.stream.specs.Steps.{State, state}
 use Rattle.stream.specs.Courses.{fedBy, afterFeed, afterTurn}

@@ -68,7 +68,8 @@ module _ (sample ms steps : ℕ) (t image : List ℕ) (c : Core) where
   unfolding stepOf running reported
   at-command h r e = rw (h, e .free, e .stands)
 
-  at-wait : c .running ≡ true → (w : Wait) → c .motor .wait ≡ w → isFree w ≡ false
+  -- "serves that wait"
+  pub at-wait : c .running ≡ true → (w : Wait) → c .motor .wait ≡ w → isFree w ≡ false
       → stepOf sample ms steps t image c ≡ stays (moved (served w (c .motor .sample) (c .settings .flag) ms steps then) after)
   unfolding stepOf running reported
   at-wait h w e f = rw (h, e, f)

@@ -1,0 +1,82 @@
+-- The outcomes of start, feed and turn: the definitions make their tests in the order of 01's table.
+-- Assumes nothing.
+use Prim.Native.Nat.{ℕ, _≤_, _<_}
+use mathlib.Core.Path.{_≡_, _∙_}
+use mathlib.Core.List.{List, [], _++_}
+use mathlib.Core.Bool.{true, false}
+use native.Mathlib.Omega.{arith}
+use lib.ListN.{length, drop}
+use borrow.Author.Tests.{lt-ltb, le-ltb}
+use Rattle.parts.specs.Parts.{putIn}
+use Rattle.parts.proofs.Laws.{put-front, put-in-room}
+use Rattle.image.specs.Image.{rightLength}
+use Rattle.frames.specs.declared.Frame.{Frame}
+use Rattle.answers.specs.Packet.{packet, packetBytes}
+use Rattle.answers.proofs.Writing.{length-packet}
+use Rattle.drive.specs.declared.Drive.{Drive}
+use Rattle.drive.specs.declared.FeedAnswer.{FeedAnswer}
+use Rattle.drive.specs.Calls.{startOf, receivedBy, answerTo, feedOf, feedImage, feedBuffer, mostSample, turnOf}
+use Rattle.claims.specs.Demand1.{StartRow, FeedUnchanged, FrameRefused, frameCode, refusalPacket, FeedRow, TurnRow}
+use Rattle.claims.proofs.OrderLaws.{order-row}
+
+pub start-row : (number : ℕ) (image : List ℕ) → StartRow number image
+unfolding startOf
+start-row number image = record {
+  unit-number = λ n. rw n;
+  image-length = λ n l. rw (n, l);
+  image-bad = λ n l g. rw (n, l, g);
+  started = λ n l g. rw (n, l, g);
+}
+
+pub turn-row : (u : Drive) (sample ms steps : ℕ) (image : List ℕ) → TurnRow u sample ms steps image
+unfolding turnOf
+turn-row u sample ms steps image = record {
+  image-length = λ l. rw l;
+  sample-high = λ l s. rw (l, lt-ltb mostSample sample s);
+  steps-many = λ l s m. rw (l, le-ltb mostSample sample s, lt-ltb (u .core .motor .last .number) steps m);
+  taken = λ l s m. rw (l, le-ltb mostSample sample s, le-ltb (u .core .motor .last .number) steps m);
+}
+
+-- a packet without data at the front of a buffer of 262 bytes
+front : (status : ℕ) (buffer : List ℕ) → packetBytes ≤ length buffer
+    → putIn buffer 0 (packet status []) ≡ packet status [] ++ drop (length (packet status [])) buffer
+front status buffer l =
+    put-in-room buffer 0 (packet status []) (omega (arith, length-packet status [])) ∙ put-front buffer (packet status [])
+
+module _ (u : Drive) (bytes image buffer : List ℕ) where
+  buffer-short : length buffer < packetBytes → FeedUnchanged u bytes image buffer FeedAnswer.BufferShort
+  unfolding feedOf feedImage feedBuffer
+  buffer-short l = let t = lt-ltb (length buffer) packetBytes l in record { refused = rw t; image-same = rw t; buffer-same = rw t }
+
+  image-length : packetBytes ≤ length buffer → rightLength image ≡ false → FeedUnchanged u bytes image buffer FeedAnswer.ImageLength
+  unfolding feedOf feedImage feedBuffer
+  image-length l w =
+      let t = le-ltb (length buffer) packetBytes l in
+      record { refused = rw (t, w); image-same = rw (t, w); buffer-same = rw (t, w) }
+
+  module _ (l : packetBytes ≤ length buffer) (w : rightLength image ≡ true) where
+    frame-refused : receivedBy u bytes .frame ≡ Frame.Alone → (frameCode u bytes ≡ 0 → ⊥)
+        → FrameRefused u bytes image buffer (refusalPacket u (frameCode u bytes))
+    unfolding feedOf feedImage feedBuffer answerTo
+    frame-refused f n =
+        let t = le-ltb (length buffer) packetBytes l in
+        let h = order-row (receivedBy u bytes .receiver) (u .core) (u .text) image in
+        record {
+          only-receiver = rw (t, w, f, h .refused n);
+          image-same = rw (t, w, f) (h .image-same n);
+          answered = rw (t, w, f, h .refused n) (front _ buffer l);
+        }
+
+    group-refused : receivedBy u bytes .frame ≡ Frame.Group → (frameCode u bytes ≡ 0 → ⊥) → FrameRefused u bytes image buffer []
+    unfolding feedOf feedImage feedBuffer
+    group-refused f n =
+        let t = le-ltb (length buffer) packetBytes l in
+        let h = order-row (receivedBy u bytes .receiver) (u .core) (u .text) image in
+        record {
+          only-receiver = rw (t, w, f, h .refused n);
+          image-same = rw (t, w, f) (h .image-same n);
+          answered = rw (t, w, f);
+        }
+
+  pub feed-row : FeedRow u bytes image buffer
+  feed-row = record { buffer-short = buffer-short; image-length = image-length; frame-refused = frame-refused; group-refused = group-refused }

@@ -1,0 +1,27 @@
+-- Each promise names one answer and one content of what is lent: the law stands beside the promise.
+-- Assumes nothing.
+use Rattle.parts.proofs.Laws.{put-once}
+use Rattle.digits.proofs.Writing.{written-once}
+use Rattle.image.proofs.CallLaws.{stored-once, cleared-once}
+use Rattle.answers.proofs.Writing.{packet-once}
+use Rattle.host.proofs.LineLaws.{line-once}
+use Rattle.obeying.proofs.KindLaws.{obeyed-once}
+use Rattle.drive.proofs.FeedLaws.{fed-once}
+use Rattle.claims.proofs.one_answer.Statement.{statement}
+use Rattle.claims.proofs.one_answer.Tie as tie
+
+returns : tie.Need-returns
+returns c =
+    record {
+      put = λ buffer at bytes r s x y. put-once;
+      written = λ buffer at text r s x y. written-once;
+      stored = λ image slot text r s x y. stored-once;
+      cleared = λ image r s x y. cleared-once;
+      packet = λ buffer status bytes r s x y. packet-once;
+      line = λ l count buffer r s x y. line-once;
+      obeyed = λ c text body image r s x y. obeyed-once;
+      fed = fed-once;
+    }
+
+pub one-answer-spec : {M : Type 1} → statement M
+one-answer-spec = tie.close (tie.spec returns)

@@ -1,0 +1,124 @@
+-- Demand 1: "Every call answers on every input and every lent length. Bad input gets the code or refusal that document 01 names, at the place in
+-- the order that it names, and that refusal changes nothing .. beyond what 01 says." A field for each row of 01's table of outcomes.
+-- Assumes nothing.
+use Prim.Native.Nat.{ℕ, _≤_, _<_}
+use mathlib.Core.Path.{_≡_}
+use mathlib.Core.List.{List, [], _∷_, _++_}
+use mathlib.Core.Bool.{Bool, true, false, not}
+use lib.ListN.{length, drop}
+use Rattle.commands.specs.Table as table
+use Rattle.lines.specs.Bodies.{lineCode}
+use Rattle.image.specs.Image.{rightLength, slots, slotsGood}
+use Rattle.frames.specs.declared.Frame.{Frame}
+use Rattle.frames.specs.declared.Receiver.{Receiver}
+use Rattle.frames.specs.Addresses.{isUnit}
+use Rattle.answers.specs.Packet.{packet, packetBytes, statusOf}
+use Rattle.answers.specs.Reading.{isPacket, foundOf, refused, readOf}
+use Rattle.answers.specs.declared.Found.the-variants.{NotOnePacket}
+use Rattle.ramp.specs.Ramp.{figuresOf}
+use Rattle.ramp.specs.Claims as ramps
+use Rattle.host.specs.Host.{codeOf, codeIn, LineIs}
+use Rattle.host.specs.declared.LineWritten.{LineWritten}
+use Rattle.host.specs.declared.LineWritten.the-variants.{Bytes, Refused, NoRoom}
+use Rattle.host.specs.Claims.{LineRefusedIs, LineShortIs}
+use Rattle.lines.specs.Lists.{HostList, writtenOf}
+use Rattle.turns.specs.declared.Core.{Core}
+use Rattle.obeying.specs.Obeying as obeying
+use Rattle.drive.specs.declared.Drive.{Drive}
+use Rattle.drive.specs.declared.StartAnswer.{StartAnswer}
+use Rattle.drive.specs.declared.FeedAnswer.{FeedAnswer}
+use Rattle.drive.specs.declared.TurnAnswer.{TurnAnswer}
+use Rattle.drive.specs.Framed.{frameObeyed, frameImage}
+use Rattle.drive.specs.Calls.{drive, noUnit, freshUnit, startAnswer, startOf, fed, receivedBy, feedOf, feedImage, feedBuffer, mostSample, turnRefused, turnOf}
+use Rattle.claims.specs.Order.{codeInOrder}
+
+-- "at start: unit number not 1 to 16, then image not 4,160 bytes, then bad image | named refusal, no unit"
+pub record StartRow (number : ℕ) (image : List ℕ) : Type 0 where
+  pub unit-number : isUnit number ≡ false → startOf number image ≡ startAnswer StartAnswer.UnitNumber noUnit
+  pub image-length : isUnit number ≡ true → rightLength image ≡ false → startOf number image ≡ startAnswer StartAnswer.ImageLength noUnit
+  pub image-bad : isUnit number ≡ true → rightLength image ≡ true → slotsGood image slots ≡ false
+      → startOf number image ≡ startAnswer StartAnswer.ImageBad noUnit
+  pub started : isUnit number ≡ true → rightLength image ≡ true → slotsGood image slots ≡ true
+      → startOf number image ≡ startAnswer StartAnswer.Started (freshUnit number image)
+
+-- a feed call that changes nothing at all
+pub record FeedUnchanged (u : Drive) (bytes image buffer : List ℕ) (answer : FeedAnswer) : Type 0 where
+  pub refused : feedOf u bytes image buffer ≡ fed answer u 0 0
+  pub image-same : feedImage u bytes image buffer ≡ image
+  pub buffer-same : feedBuffer u bytes image buffer ≡ buffer
+
+-- a feed call whose frame is refused with a code: "packet with the code (none to a group); record beyond the receiver, and image, unchanged";
+-- "Answer bytes past the packet are unchanged; without an answer all are."
+pub record FrameRefused (u : Drive) (bytes image buffer answer : List ℕ) : Type 0 where
+  pub only-receiver : feedOf u bytes image buffer
+      ≡ fed FeedAnswer.Taken (drive (u .number) (receivedBy u bytes .receiver) (u .text) (u .core)) (receivedBy u bytes .consumed) (length answer)
+  pub image-same : feedImage u bytes image buffer ≡ image
+  pub answered : feedBuffer u bytes image buffer ≡ answer ++ drop (length answer) buffer
+
+-- the code of the frame that these bytes complete
+abbrev pub frameCode : Drive → List ℕ → ℕ
+frameCode u bytes = codeInOrder (receivedBy u bytes .receiver) (u .core)
+
+-- a refusal's packet: its code, no data, idle or running as before
+abbrev pub refusalPacket : Drive → ℕ → List ℕ
+refusalPacket u code = packet (statusOf (not (u .core .running)) code) []
+
+pub record FeedRow (u : Drive) (bytes image buffer : List ℕ) : Type 0 where
+  -- "answer buffer under 262 bytes | named refusal, 0 consumed, nothing changed"
+  pub buffer-short : length buffer < packetBytes → FeedUnchanged u bytes image buffer FeedAnswer.BufferShort
+  -- "image not 4,160 bytes | the same; tested after the buffer"
+  pub image-length : packetBytes ≤ length buffer → rightLength image ≡ false → FeedUnchanged u bytes image buffer FeedAnswer.ImageLength
+  -- "code 2, 3 or 15", to this unit alone and to a group
+  pub frame-refused : packetBytes ≤ length buffer → rightLength image ≡ true → receivedBy u bytes .frame ≡ Frame.Alone
+      → (frameCode u bytes ≡ 0 → ⊥) → FrameRefused u bytes image buffer (refusalPacket u (frameCode u bytes))
+  pub group-refused : packetBytes ≤ length buffer → rightLength image ≡ true → receivedBy u bytes .frame ≡ Frame.Group
+      → (frameCode u bytes ≡ 0 → ⊥) → FrameRefused u bytes image buffer []
+
+-- "Order of checks for a frame", for every receiver, core and text
+pub record OrderRow (r : Receiver) (c : Core) (text image : List ℕ) : Type 0 where
+  pub codes : table.oneOf (0 ∷ 2 ∷ 3 ∷ 15 ∷ []) (codeInOrder r c) ≡ true
+  -- "A refused frame carries its own code and no data"; record and image unchanged
+  pub refused : (codeInOrder r c ≡ 0 → ⊥) → frameObeyed r c text ≡ obeying.refused (codeInOrder r c) c text
+  pub image-same : (codeInOrder r c ≡ 0 → ⊥) → frameImage r (c .running) image ≡ image
+  -- "all others carry the held code"
+  pub held : codeInOrder r c ≡ 0 → frameObeyed r c text .code ≡ frameObeyed r c text .core .code
+
+-- "sample over 15, then too many microsteps, in a turn | named refusal, nothing changed; tested after the image length"
+pub record TurnRow (u : Drive) (sample ms steps : ℕ) (image : List ℕ) : Type 0 where
+  pub image-length : rightLength image ≡ false → turnOf u sample ms steps image ≡ turnRefused TurnAnswer.ImageLength u
+  pub sample-high : rightLength image ≡ true → mostSample < sample → turnOf u sample ms steps image ≡ turnRefused TurnAnswer.Sample u
+  pub steps-many : rightLength image ≡ true → sample ≤ mostSample → u .core .motor .last .number < steps
+      → turnOf u sample ms steps image ≡ turnRefused TurnAnswer.Steps u
+  pub taken : rightLength image ≡ true → sample ≤ mostSample → steps ≤ u .core .motor .last .number
+      → turnOf u sample ms steps image .answer ≡ TurnAnswer.Taken
+
+-- "host: list that the line check refuses or whose line passes 256 bytes, then buffer too short | that code, or named refusal; buffer unchanged"
+pub record HostRow : Type 0 where
+  -- the code is the list's, whatever the buffer; then the room decides
+  pub its-code : {l : HostList} {count : ℕ} {buffer after : List ℕ} {answer : LineWritten} → LineIs l count buffer answer after
+      → codeIn answer ≡ codeOf l count
+  pub fits : {l : HostList} {count : ℕ} {buffer after : List ℕ} {answer : LineWritten} → LineIs l count buffer answer after
+      → codeOf l count ≡ 0 → length (writtenOf l) ≤ length buffer → answer ≡ Bytes (length (writtenOf l))
+  pub no-room : {l : HostList} {count : ℕ} {buffer after : List ℕ} {answer : LineWritten} → LineIs l count buffer answer after
+      → codeOf l count ≡ 0 → length buffer < length (writtenOf l) → answer ≡ NoRoom
+  pub refused : {l : HostList} {count code : ℕ} {buffer after : List ℕ} → LineIs l count buffer (Refused code) after
+      → LineRefusedIs l count code buffer after
+  pub short : {l : HostList} {count : ℕ} {buffer after : List ℕ} → LineIs l count buffer NoRoom after
+      → LineShortIs l count buffer after
+
+-- "host: slice not exactly one packet (..) | named refusal"
+pub record PacketRow (s : List ℕ) : Type 0 where
+  pub which : readOf s .found ≡ foundOf (isPacket s)
+  pub zeros : readOf s .found ≡ NotOnePacket → readOf s ≡ refused
+
+pub record Demand1 : Type 0 where
+  pub start : (number : ℕ) (image : List ℕ) → StartRow number image
+  pub feed : (u : Drive) (bytes image buffer : List ℕ) → FeedRow u bytes image buffer
+  pub order : (r : Receiver) (c : Core) (text image : List ℕ) → OrderRow r c text image
+  pub turn : (u : Drive) (sample ms steps : ℕ) (image : List ℕ) → TurnRow u sample ms steps image
+  pub line : HostRow
+  pub packet : (s : List ℕ) → PacketRow s
+  -- "ramp: V, then L, then N outside the ranges of this paper | named refusal, all figures 0": each verdict exactly when
+  pub ramp : (v l : ℕ) (endless : Bool) (n : ℕ) → ramps.Outcome v l endless n (figuresOf v l endless n)
+  -- the line check has a code for every body
+  pub check-line : (b : List ℕ) → table.oneOf (0 ∷ 2 ∷ 3 ∷ []) (lineCode b) ≡ true
