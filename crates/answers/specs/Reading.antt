@@ -1,5 +1,5 @@
 -- A packet that the host reads. 01, the row "slice not exactly one packet (status bit 6 set, bits 7 and 4 clear,
--- data 0 to 256 bytes of 20 to 7E hex): named refusal". Assumes nothing.
+-- data 0 to 256 bytes of 20 to 7E hex) | named refusal". Assumes nothing.
 use Prim.Native.Nat.{ℕ, _-_, _/_, _%_, _^_}
 use mathlib.Core.List.{List, [], _∷_}
 use mathlib.Core.Bool.{Bool, true, false, cond, not, _&&_}

@@ -14,12 +14,14 @@ use Rattle.flow.specs.Flow.{gone}
 use Rattle.motor.specs.declared.Wait.{Wait}
 use Rattle.motor.specs.declared.Motor.{Motor}
 use Rattle.motor.specs.declared.Moved.{Moved}
-use Rattle.motor.specs.declared.Moved.the-variants.{Goes}
-use Rattle.motor.specs.Motion.{room, waiting, reported, finite, relative, absolute, ifKnown, movedOn, served}
+use Rattle.motor.specs.declared.Moved.the-variants.{Goes, Stops}
+use Rattle.motor.specs.Motion.{room, stopped, waiting, reported, finite, relative, absolute, ifKnown, movedOn, served}
 use Rattle.turns.specs.declared.Core.{Core}
-use Rattle.turns.specs.Turns.{withFlow, withMotor, moved, acted, readTaken, commandTaken, turnCore, running}
-use Rattle.turns.specs.Ends.{Reads}
+use Rattle.turns.specs.Turns.{withFlow, withMotor, ended, moved, acted, readTaken, commandTaken, turnCore, running}
+use Rattle.turns.specs.Ends.{Reads, Leaving, beyond, above, below}
 use Rattle.turns.proofs.TurnLaws.{at-command, at-wait}
+use Rattle.turns.proofs.MoveLaws.{absolute-leaves}
+use Rattle.motor.proofs.StopLaws.{relative-leaves}
 use Rattle.motor.proofs.RoomLaws.{counted-up, counted-down}
 use Rattle.claims.specs.Moves.{Moves, up, down, to-above, to-below, stepped, Going, Ended, motorAfter, MoveTurns}
 
@@ -79,6 +81,30 @@ module _ (sample ms steps : ℕ) (text image : List ℕ) (c : Core) (runs : c .r
       let g = act-goes a next goesUp n k m in
       record { waits = rw (s, g); answers = rw (s, g); position = rw (s, g) }
 
+  -- the range would be left: the run stops, and so does the motor
+  known-stops : {r : Moved} → c .motor .known ≡ true → r ≡ Stops 11 → ifKnown then r ≡ Stops 11
+  unfolding reported
+  known-stops k e = rw k e
+
+  act-stops : (a : Act) (next : ℕ) → c .motor .known ≡ true → Leaving (then .position) a
+      → acted a (withFlow (gone next (c .flow)) (withMotor then c)) .motor ≡ stopped then
+  unfolding acted ended
+  act-stops a next k (beyond j l h) = ap (gone-by next) (known-stops k (absolute-leaves j then l h))
+  act-stops a next k (above j l) = ap (gone-by next) (known-stops k (relative-leaves true j then l))
+  act-stops a next k (below j l) = ap (gone-by next) (known-stops k (relative-leaves false j then l))
+
+  stopped-free : c .motor .wait ≡ Wait.Nothing → stopped then ≡ waiting Wait.Nothing then
+  unfolding stopped reported
+  stopped-free e = rw e
+
+  makes-no-step : (a : Act) (next : ℕ) → c .motor .known ≡ true → Reads (take (c .flow .length) text) c (At (Plain a) next)
+      → Leaving (then .position) a → Ended (then .position) (motorAfter sample ms steps text image c)
+  unfolding turnCore readTaken commandTaken
+  makes-no-step a next k r l =
+      let s = at-command sample ms steps (take (c .flow .length) text) image c runs (At (Plain a) next) r in
+      let g = act-stops a next k l ∙ stopped-free (r .free) in
+      record { waits = rw (s, g); answers = rw (s, g); position = rw (s, g) }
+
   -- the report of a move, counted whole
   reported-at : (goesUp : Bool) (left p : ℕ) → Going goesUp left p (c .motor) → left ≤ room goesUp p → steps ≤ left → then .position ≡ stepped goesUp p steps
   unfolding reported
@@ -107,4 +133,5 @@ move-turns sample ms steps text image c =
       takes = λ a next goesUp n h k r m. takes sample ms steps text image c h a next goesUp n k r m;
       goes-on = λ goesUp left p h g l s. goes-on sample ms steps text image c h goesUp left p g l s;
       ends = λ goesUp left p h g l s. ends sample ms steps text image c h goesUp left p g l s;
+      makes-no-step = λ a next h k r l. makes-no-step sample ms steps text image c h a next k r l;
     }

@@ -1,41 +1,65 @@
 -- The outcomes of start, feed and turn: the definitions make their tests in the order of 01's table.
 -- Assumes nothing.
 use Prim.Native.Nat.{ℕ, _≤_, _<_}
-use mathlib.Core.Path.{_≡_, _∙_}
+use mathlib.Core.Path.{_≡_, refl, _∙_}
 use mathlib.Core.List.{List, [], _++_}
-use mathlib.Core.Bool.{true, false}
+use mathlib.Core.Bool.{Bool, true, false, cond}
 use native.Mathlib.Omega.{arith}
 use lib.ListN.{length, drop}
+use lib.Dec.{ltb}
 use borrow.Author.Tests.{lt-ltb, le-ltb}
 use Rattle.parts.specs.Parts.{putIn}
 use Rattle.parts.proofs.Laws.{put-front, put-in-room}
-use Rattle.image.specs.Image.{rightLength}
+use Rattle.image.specs.Image.{rightLength, slots, slotsGood}
 use Rattle.frames.specs.declared.Frame.{Frame}
 use Rattle.answers.specs.Packet.{packet, packetBytes}
 use Rattle.answers.proofs.Writing.{length-packet}
 use Rattle.drive.specs.declared.Drive.{Drive}
+use Rattle.drive.specs.declared.StartAnswer.{StartAnswer}
 use Rattle.drive.specs.declared.FeedAnswer.{FeedAnswer}
-use Rattle.drive.specs.Calls.{startOf, receivedBy, answerTo, feedOf, feedImage, feedBuffer, mostSample, turnOf}
+use Rattle.drive.specs.declared.TurnAnswer.{TurnAnswer}
+use Rattle.turns.specs.Turns.{turnCore}
+use Rattle.frames.specs.Addresses.{isUnit}
+use Rattle.drive.specs.Names.{startName, feedName, turnName}
+use Rattle.drive.specs.Calls.{noUnit, freshUnit, startAnswer, startOf, fed, afterFrame, obeyedBy, turnRefused, turnTaken, receivedBy, answerTo, feedOf, feedImage, feedBuffer, mostSample, turnOf}
 use Rattle.claims.specs.Demand1.{StartRow, FeedUnchanged, FrameRefused, frameCode, refusalPacket, FeedRow, TurnRow}
 use Rattle.claims.proofs.OrderLaws.{order-row}
 
 pub start-row : (number : ℕ) (image : List ℕ) → StartRow number image
 unfolding startOf
 start-row number image = record {
+  named = go (isUnit number) (rightLength image) (slotsGood image slots);
   unit-number = λ n. rw n;
   image-length = λ n l. rw (n, l);
   image-bad = λ n l g. rw (n, l, g);
   started = λ n l g. rw (n, l, g);
 }
+  where
+    go : (a b d : Bool)
+        → startName (cond a (cond b (cond d (startAnswer StartAnswer.Started (freshUnit number image)) (startAnswer StartAnswer.ImageBad noUnit)) (startAnswer StartAnswer.ImageLength noUnit)) (startAnswer StartAnswer.UnitNumber noUnit) .answer)
+        ≡ cond a (cond b (cond d "started" "bad image") "image not 4,160 bytes") "unit number not 1 to 16"
+    go true true true = refl
+    go true true false = refl
+    go true false d = refl
+    go false b d = refl
 
 pub turn-row : (u : Drive) (sample ms steps : ℕ) (image : List ℕ) → TurnRow u sample ms steps image
 unfolding turnOf
 turn-row u sample ms steps image = record {
+  named = go (rightLength image) (ltb mostSample sample) (ltb (u .core .motor .last .number) steps);
   image-length = λ l. rw l;
   sample-high = λ l s. rw (l, lt-ltb mostSample sample s);
   steps-many = λ l s m. rw (l, le-ltb mostSample sample s, lt-ltb (u .core .motor .last .number) steps m);
   taken = λ l s m. rw (l, le-ltb mostSample sample s, le-ltb (u .core .motor .last .number) steps m);
 }
+  where
+    go : (a b d : Bool)
+        → turnName (cond a (cond b (turnRefused TurnAnswer.Sample u) (cond d (turnRefused TurnAnswer.Steps u) (turnTaken (turnCore sample ms steps (u .text) image (u .core)) image u))) (turnRefused TurnAnswer.ImageLength u) .answer)
+        ≡ cond a (cond b "sample over 15" (cond d "too many microsteps" "taken")) "image not 4,160 bytes"
+    go true true d = refl
+    go true false true = refl
+    go true false false = refl
+    go false b d = refl
 
 -- a packet without data at the front of a buffer of 262 bytes
 front : (status : ℕ) (buffer : List ℕ) → packetBytes ≤ length buffer
@@ -78,5 +102,15 @@ module _ (u : Drive) (bytes image buffer : List ℕ) where
           answered = rw (t, w, f);
         }
 
+  feed-named : (a b : Bool) (f : Frame)
+      → feedName (cond a (fed FeedAnswer.BufferShort u 0 0) (cond b (afterFrame f (receivedBy u bytes) (obeyedBy u bytes) u) (fed FeedAnswer.ImageLength u 0 0)) .answer)
+      ≡ cond a "answer buffer under 262 bytes" (cond b "taken" "image not 4,160 bytes")
+  feed-named true b f = refl
+  feed-named false true Frame.Nothing = refl
+  feed-named false true Frame.Alone = refl
+  feed-named false true Frame.Group = refl
+  feed-named false false f = refl
+
   pub feed-row : FeedRow u bytes image buffer
-  feed-row = record { buffer-short = buffer-short; image-length = image-length; frame-refused = frame-refused; group-refused = group-refused }
+  unfolding feedOf
+  feed-row = record { named = feed-named (ltb (length buffer) packetBytes) (rightLength image) (receivedBy u bytes .frame); buffer-short = buffer-short; image-length = image-length; frame-refused = frame-refused; group-refused = group-refused }

@@ -4,8 +4,9 @@
 use Prim.Native.Nat.{ℕ, _≤_, _<_}
 use mathlib.Core.Path.{_≡_}
 use mathlib.Core.List.{List, [], _∷_, _++_}
-use mathlib.Core.Bool.{Bool, true, false, not}
+use mathlib.Core.Bool.{Bool, true, false, not, cond}
 use lib.ListN.{length, drop}
+use lib.Dec.{ltb}
 use Rattle.commands.specs.Table as table
 use Rattle.lines.specs.Bodies.{lineCode}
 use Rattle.image.specs.Image.{rightLength, slots, slotsGood}
@@ -28,12 +29,16 @@ use Rattle.drive.specs.declared.Drive.{Drive}
 use Rattle.drive.specs.declared.StartAnswer.{StartAnswer}
 use Rattle.drive.specs.declared.FeedAnswer.{FeedAnswer}
 use Rattle.drive.specs.declared.TurnAnswer.{TurnAnswer}
+use Rattle.drive.specs.Names.{startName, feedName, turnName}
 use Rattle.drive.specs.Framed.{frameObeyed, frameImage}
 use Rattle.drive.specs.Calls.{drive, noUnit, freshUnit, startAnswer, startOf, fed, receivedBy, feedOf, feedImage, feedBuffer, mostSample, turnRefused, turnOf}
 use Rattle.claims.specs.Order.{codeInOrder}
 
 -- "at start: unit number not 1 to 16, then image not 4,160 bytes, then bad image | named refusal, no unit"
 pub record StartRow (number : ℕ) (image : List ℕ) : Type 0 where
+  -- the names, in their order
+  pub named : startName (startOf number image .answer)
+      ≡ cond (isUnit number) (cond (rightLength image) (cond (slotsGood image slots) "started" "bad image") "image not 4,160 bytes") "unit number not 1 to 16"
   pub unit-number : isUnit number ≡ false → startOf number image ≡ startAnswer StartAnswer.UnitNumber noUnit
   pub image-length : isUnit number ≡ true → rightLength image ≡ false → startOf number image ≡ startAnswer StartAnswer.ImageLength noUnit
   pub image-bad : isUnit number ≡ true → rightLength image ≡ true → slotsGood image slots ≡ false
@@ -64,6 +69,9 @@ abbrev pub refusalPacket : Drive → ℕ → List ℕ
 refusalPacket u code = packet (statusOf (not (u .core .running)) code) []
 
 pub record FeedRow (u : Drive) (bytes image buffer : List ℕ) : Type 0 where
+  -- the names, in their order
+  pub named : feedName (feedOf u bytes image buffer .answer)
+      ≡ cond (ltb (length buffer) packetBytes) "answer buffer under 262 bytes" (cond (rightLength image) "taken" "image not 4,160 bytes")
   -- "answer buffer under 262 bytes | named refusal, 0 consumed, nothing changed"
   pub buffer-short : length buffer < packetBytes → FeedUnchanged u bytes image buffer FeedAnswer.BufferShort
   -- "image not 4,160 bytes | the same; tested after the buffer"
@@ -85,6 +93,10 @@ pub record OrderRow (r : Receiver) (c : Core) (text image : List ℕ) : Type 0 w
 
 -- "sample over 15, then too many microsteps, in a turn | named refusal, nothing changed; tested after the image length"
 pub record TurnRow (u : Drive) (sample ms steps : ℕ) (image : List ℕ) : Type 0 where
+  -- the names, in their order
+  pub named : turnName (turnOf u sample ms steps image .answer)
+      ≡ cond (rightLength image) (cond (ltb mostSample sample) "sample over 15"
+      (cond (ltb (u .core .motor .last .number) steps) "too many microsteps" "taken")) "image not 4,160 bytes"
   pub image-length : rightLength image ≡ false → turnOf u sample ms steps image ≡ turnRefused TurnAnswer.ImageLength u
   pub sample-high : rightLength image ≡ true → mostSample < sample → turnOf u sample ms steps image ≡ turnRefused TurnAnswer.Sample u
   pub steps-many : rightLength image ≡ true → sample ≤ mostSample → u .core .motor .last .number < steps

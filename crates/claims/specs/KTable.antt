@@ -12,17 +12,20 @@ use Rattle.lines.specs.Examples.{bytes}
 use Rattle.image.specs.Image.{emptyImage}
 use Rattle.answers.specs.Packet.{packetBytes}
 use Rattle.ramp.specs.Ramp.{figuresOf}
+use Rattle.turns.specs.declared.Action.{Action}
+use Rattle.turns.specs.declared.Direction.{Direction}
+use Rattle.turns.specs.declared.Direction.the-variants.{Up, Down, Still}
 use Rattle.drive.specs.Calls.{startOf, feedBuffer}
 use Rattle.stream.specs.Steps.{State, state}
-use Rattle.stream.specs.Courses.{fedBy, afterFeed, afterTurn}
+use Rattle.stream.specs.Courses.{fedBy, afterFeed, turnedUnit, afterTurn}
 
 -- ---- a script
 
 pub data Move : Type 0 where
   -- these bytes in one feed call; so many are consumed, and this is the answer, none if empty
   Feed : (bytes : List ℕ) (consumed : ℕ) (answer : List ℕ) → Move
-  -- a turn with this sample, milliseconds and microsteps done
-  Turn : (sample ms steps : ℕ) → Move
+  -- a turn with this sample, milliseconds and microsteps done, and the action that it answers
+  Turn : (sample ms steps : ℕ) (direction : Direction) (number : ℕ) → Move
   -- so many turns with the sample 15, a millisecond and all microsteps done
   Turns : ℕ → Move
   Idle : Move
@@ -45,10 +48,25 @@ unfoldable pub afterTurns : ℕ → State → State
 afterTurns zero s = s
 afterTurns (suc n) s = afterTurns n (afterTurn s 15 1 (s .unit .core .motor .last .number))
 
+-- whether an action is this one
+abbrev pub alike : Direction → Direction → Bool
+alike Up Up = true
+alike Up Down = false
+alike Up Still = false
+alike Down Up = false
+alike Down Down = true
+alike Down Still = false
+alike Still Up = false
+alike Still Down = false
+alike Still Still = true
+
+abbrev pub answers : Action → Direction → ℕ → Bool
+answers a d n = alike (a .direction) d && eqb (a .number) n
+
 unfoldable pub plays : State → List Move → Bool
 plays s [] = true
 plays s (Feed b n a ∷ ms) = eqb (fedBy s b buffer .consumed) n && same (answerBy s b) a && plays (afterFeed s b buffer) ms
-plays s (Turn sample time steps ∷ ms) = plays (afterTurn s sample time steps) ms
+plays s (Turn sample time steps d n ∷ ms) = answers (turnedUnit s sample time steps .action) d n && plays (afterTurn s sample time steps) ms
 plays s (Turns n ∷ ms) = plays (afterTurns n s) ms
 plays s (Idle ∷ ms) = not (s .unit .core .running) && plays s ms
 plays s (Running ∷ ms) = s .unit .core .running && plays s ms
@@ -111,7 +129,7 @@ cases =
     ∷ one "/1L0R" 0x63
     ∷ one "/1V0R" 0x63
     -- K12
-    ∷ Script (told "/1D1R" (packet 0x40) ∷ Turn 15 1 0 ∷ told "/1Q" (packet 0x6B) ∷ [])
+    ∷ Script (told "/1D1R" (packet 0x40) ∷ Turn 15 1 0 Still 0 ∷ told "/1Q" (packet 0x6B) ∷ [])
     -- K13, all steps done in each turn
     ∷ Script (told "/1gP5gD1G2G3R" (packet 0x40) ∷ Turns 35 ∷ Idle ∷ At 9 ∷ told "/1Q" (packet 0x60) ∷ [])
     -- K14

@@ -14,7 +14,7 @@ use Rattle.motor.specs.declared.Motor.{Motor}
 use Rattle.motor.specs.Motion.{room, last}
 use Rattle.turns.specs.declared.Core.{Core}
 use Rattle.turns.specs.Turns.{turnCore}
-use Rattle.turns.specs.Ends.{Reads, positionThen}
+use Rattle.turns.specs.Ends.{Reads, Leaving, positionThen}
 
 -- a finite move of n microsteps from p, upward or not
 pub data Moves (p : ℕ) : Act → Bool → ℕ → Type 0 where
@@ -54,3 +54,7 @@ pub record MoveTurns (sample ms steps : ℕ) (text image : List ℕ) (c : Core) 
   -- all done
   pub ends : (up : Bool) (left p : ℕ) → c .running ≡ true → Going up left p (c .motor) → left ≤ room up p → steps ≡ left
       → Ended (stepped up p left) (motorAfter sample ms steps text image c)
+  -- "Such a finite move makes no step": `A`, `P` or `D` that would leave the range
+  pub makes-no-step : (a : Act) (next : ℕ) → c .running ≡ true → c .motor .known ≡ true
+      → Reads (take (c .flow .length) text) c (At (Plain a) next) → Leaving (positionThen sample steps c) a
+      → Ended (positionThen sample steps c) (motorAfter sample ms steps text image c)

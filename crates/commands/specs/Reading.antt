@@ -1,4 +1,4 @@
--- One command read at a place: "operand missing or out of range (3)", "unknown letter (2)". 01, "Lines".
+-- One command read at a place: "unknown or misplaced letter (2) or operand missing or out of range (3)". 01, "Lines".
 -- Assumes nothing.
 use Prim.Native.Nat.{ℕ, _+_, _-_, _≤_}
 use mathlib.Core.List.{List}

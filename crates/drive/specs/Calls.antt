@@ -79,7 +79,7 @@ receivedBy u bytes = receiveOf (u .receiver) (u .number) bytes
 abbrev pub obeyedBy : Drive → List ℕ → Obeyed
 obeyedBy u bytes = frameObeyed (receivedBy u bytes .receiver) (u .core) (u .text)
 
--- "answer buffer under 262 bytes: named refusal, 0 consumed, nothing changed"; "image not 4,160 bytes: the same; tested after the buffer"
+-- "answer buffer under 262 bytes | named refusal, 0 consumed, nothing changed"; "image not 4,160 bytes | the same; tested after the buffer"
 unfoldable pub feedOf : Drive → List ℕ → List ℕ → List ℕ → Fed
 feedOf u bytes image buffer =
     cond (ltb (length buffer) packetBytes) (fed FeedAnswer.BufferShort u 0 0)

@@ -95,7 +95,7 @@ pub record RampClaims : Type 0 where
   -- no input at all has a bad time, and L 0 is refused
   pub no-bad-time : (v l : ℕ) (endless : Bool) (n : ℕ) → NoBadTime v l endless n (figuresOf v l endless n)
   pub l-0 : (v : ℕ) (endless : Bool) (n : ℕ) → Refused (figuresOf v 0 endless n)
-  -- "Testing a computed time with greater than: a not-a-number slips by": by every limit, were L 0 not refused
+  -- 'Testing a computed time with "greater than": a not-a-number slips by': by every limit, were L 0 not refused
   pub slips-by : (v n : ℕ) (limit : Float) → lt limit (timeOf (peakOf v 0 false n) 0) ≡ false
   -- each verdict exactly when 01 says
   pub outcome : (v l : ℕ) (endless : Bool) (n : ℕ) → Outcome v l endless n (figuresOf v l endless n)

@@ -21,6 +21,7 @@ use Rattle.commands.specs.declared.Read.the-variants.{At, Bad, End}
 use Rattle.commands.specs.Table.{table, find, asksOf, within, exponentOf}
 use Rattle.commands.specs.Reading.{readAt}
 use Rattle.commands.specs.Writing.{inRange}
+use Rattle.commands.proofs.TableLaws.{exponent-most}
 use Rattle.commands.proofs.WritingLaws.{spells-as}
 use Rattle.image.specs.Image.{slotGood}
 use Rattle.flow.specs.declared.Flow.{Flow}
@@ -40,10 +41,11 @@ use Rattle.turns.specs.Turns.{withFlow, withMotor, withSettings, ended, astray,
 use Rattle.drive.specs.Calls.{mostSample}
 use Rattle.runs.proofs.KeepLaws.{codeValues, Keeps, stopped-keeps, relative-keeps, absolute-keeps, known-keeps, served-keeps}
 
--- what is told of a core: `?2`, `?7`, `?4`, and the held code
+-- what is told of a core: `?2`, `?7`, `?6`, `?4`, and the held code
 pub record Fit (c : Core) : Type 0 where
   pub speed : c .settings .speed ≤ widest
   pub correction : c .settings .correction ≤ widest
+  pub exponent : c .settings .exponent ≤ 8
   pub sample : c .motor .sample ≤ mostSample
   pub code : c .code < codeValues
 
@@ -61,17 +63,17 @@ correction-most n e = omega (arith, leb-true n 1650 (and-eq-true-iff (leb 1400 n
 module _ (c : Core) (h : Fit c) where
   pub ended-fit : (k : ℕ) → k < codeValues → Fit (ended k c)
   unfolding ended
-  ended-fit k l = record { speed = h .speed; correction = h .correction; sample = rw (stopped-keeps (c .motor)) (h .sample); code = l }
+  ended-fit k l = record { speed = h .speed; correction = h .correction; exponent = h .exponent; sample = rw (stopped-keeps (c .motor)) (h .sample); code = l }
 
   -- flow, motor or settings changed
   pub flow-fit : (f : Flow) → Fit (withFlow f c)
-  flow-fit f = record { speed = h .speed; correction = h .correction; sample = h .sample; code = h .code }
+  flow-fit f = record { speed = h .speed; correction = h .correction; exponent = h .exponent; sample = h .sample; code = h .code }
 
   pub motor-fit : (m : Motor) → m .sample ≡ c .motor .sample → Fit (withMotor m c)
-  motor-fit m e = record { speed = h .speed; correction = h .correction; sample = rw e (h .sample); code = h .code }
+  motor-fit m e = record { speed = h .speed; correction = h .correction; exponent = h .exponent; sample = rw e (h .sample); code = h .code }
 
-  set-fit : (s : Settings) → s .speed ≤ widest → s .correction ≤ widest → Fit (withSettings s c)
-  set-fit s v o = record { speed = v; correction = o; sample = h .sample; code = h .code }
+  set-fit : (s : Settings) → s .speed ≤ widest → s .correction ≤ widest → s .exponent ≤ 8 → Fit (withSettings s c)
+  set-fit s v o j = record { speed = v; correction = o; exponent = j; sample = h .sample; code = h .code }
 
   moved-fit : (r : Moved) → Keeps (c .motor .sample) r → Fit (moved r c)
   moved-fit (Goes m) k = motor-fit m k
@@ -92,20 +94,20 @@ module _ (c : Core) (h : Fit c) where
   act-fit (MoveDown n) r = go-fit (relative false n (c .motor)) (relative-keeps (c .motor) false n)
   act-fit (SetPosition n) r = motor-fit (placedAt n (c .motor)) refl
   act-fit (Home n) r = motor-fit (homed (c .settings .flag) n (c .motor)) refl
-  act-fit (TopSpeed n) r = set-fit (withSpeed n (c .settings)) (speed-most n r) (h .correction)
-  act-fit (Acceleration n) r = set-fit (withAcceleration n (c .settings)) (h .speed) (h .correction)
-  act-fit (FlagLevel n) r = set-fit (withFlag n (c .settings)) (h .speed) (h .correction)
-  act-fit (Turned n) r = set-fit (withTurned n (c .settings)) (h .speed) (h .correction)
-  act-fit (MoveCurrent n) r = set-fit (withMoveCurrent n (c .settings)) (h .speed) (h .correction)
-  act-fit (HoldCurrent n) r = set-fit (withHoldCurrent n (c .settings)) (h .speed) (h .correction)
-  act-fit (StepSize n) r = kept (exponentOf n)
+  act-fit (TopSpeed n) r = set-fit (withSpeed n (c .settings)) (speed-most n r) (h .correction) (h .exponent)
+  act-fit (Acceleration n) r = set-fit (withAcceleration n (c .settings)) (h .speed) (h .correction) (h .exponent)
+  act-fit (FlagLevel n) r = set-fit (withFlag n (c .settings)) (h .speed) (h .correction) (h .exponent)
+  act-fit (Turned n) r = set-fit (withTurned n (c .settings)) (h .speed) (h .correction) (h .exponent)
+  act-fit (MoveCurrent n) r = set-fit (withMoveCurrent n (c .settings)) (h .speed) (h .correction) (h .exponent)
+  act-fit (HoldCurrent n) r = set-fit (withHoldCurrent n (c .settings)) (h .speed) (h .correction) (h .exponent)
+  act-fit (StepSize n) r = kept (exponentOf n) refl
     where
-      kept : (e : Exponent) → Fit (withSettings (exponentKept e (c .settings)) c)
-      kept (Power e) = set-fit (exponentKept (Power e) (c .settings)) (h .speed) (h .correction)
-      kept NoPower = h
-  act-fit (Correction n) r = set-fit (withCorrection n (c .settings)) (h .speed) (correction-most n r)
-  act-fit (Outputs n) r = set-fit (withOutputs n (c .settings)) (h .speed) (h .correction)
-  act-fit (Baud n) r = set-fit (withBaud n (c .settings)) (h .speed) (h .correction)
+      kept : (e : Exponent) → exponentOf n ≡ e → Fit (withSettings (exponentKept e (c .settings)) c)
+      kept (Power e) q = set-fit (exponentKept (Power e) (c .settings)) (h .speed) (h .correction) (exponent-most n e q)
+      kept NoPower q = h
+  act-fit (Correction n) r = set-fit (withCorrection n (c .settings)) (h .speed) (correction-most n r) (h .exponent)
+  act-fit (Outputs n) r = set-fit (withOutputs n (c .settings)) (h .speed) (h .correction) (h .exponent)
+  act-fit (Baud n) r = set-fit (withBaud n (c .settings)) (h .speed) (h .correction) (h .exponent)
   act-fit (Delay n) r = motor-fit (delayed n (c .motor)) refl
   act-fit (WaitInput n) r = motor-fit (held n (c .motor)) refl
 
@@ -159,7 +161,7 @@ turn-fit sample ms steps text image c l h = motor-fit (stepOf sample ms steps t 
     d = withMotor (reported sample steps (c .motor)) c
 
     counted : Fit d
-    counted = record { speed = h .speed; correction = h .correction; sample = l; code = h .code }
+    counted = record { speed = h .speed; correction = h .correction; exponent = h .exponent; sample = l; code = h .code }
 
     stepped : Fit (stepOf sample ms steps t image c .core)
     stepped =

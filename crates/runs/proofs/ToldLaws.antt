@@ -52,12 +52,12 @@ padded-bytes t = length-padded 256 (take 256 t) (omega (arith, length-take 256 t
 
 started-fit : (n : ℕ) (c : Core) → Fit c → Fit (started n c)
 unfolding started
-started-fit n c h = record { speed = h .speed; correction = h .correction; sample = h .sample; code = omega arith }
+started-fit n c h = record { speed = h .speed; correction = h .correction; exponent = h .exponent; sample = h .sample; code = omega arith }
 
 -- "Defaults: V 305175, .. o 1500, .. last sample 15"
 fresh-fit : Fit freshCore
 unfolding freshCore defaults fresh
-fresh-fit = record { speed = omega arith; correction = omega arith; sample = omega arith; code = omega arith }
+fresh-fit = record { speed = omega arith; correction = omega arith; exponent = omega arith; sample = omega arith; code = omega arith }
 
 unit-fit : (number : ℕ) (image : List ℕ) → FitUnit (freshUnit number image)
 unfolding freshUnit
@@ -82,7 +82,7 @@ FitThen o = FitIn (o .text) (o .core)
 
 loaded-fit : (n : ℕ) (c : Core) → Fit c → Fit (loadedAs n c)
 unfolding loadedAs
-loaded-fit n c h = record { speed = h .speed; correction = h .correction; sample = h .sample; code = h .code }
+loaded-fit n c h = record { speed = h .speed; correction = h .correction; exponent = h .exponent; sample = h .sample; code = h .code }
 
 module _ (c : Core) (text : List ℕ) (h : FitIn text c) where
   line-fit : (body : List ℕ) (x : Taken) → FitThen (lineObeyed x body c text)
