@@ -5,7 +5,7 @@ use Prim.Native.Nat.{ℕ}
 use Prim.Native.String as Text
 use Rattle.lines.specs.Examples.{bytes}
 use Rattle.turns.specs.declared.Direction.the-variants.{Up, Down, Still}
-use Rattle.claims.specs.KTable.{Move, Feed, Turn, Idle, Running, At, Case, Script, All, packet, told}
+use Rattle.claims.specs.KTable.{Move, Feed, Turn, Damage, Start, Idle, Running, At, Case, Script, All, packet, told}
 
 -- a packet with data
 abbrev pub packetOf : ℕ → Text.String → List ℕ
@@ -71,6 +71,17 @@ edges =
     ∷ quiet ∷ quiet ∷ Idle ∷ At 8 ∷ told "/1s4R" (packet 0x60) ∷ runs "/1e4R" ∷ quiet ∷ Running ∷ quiet ∷ Idle ∷ asked "/1$" "" ∷ [])
     -- "`?9` writes the good image with all slots empty", also while running
     ∷ Script (told "/1s4z8R" (packet 0x60) ∷ runs "/1e4R" ∷ told "/1?9" (packet 0x40) ∷ quiet ∷ quiet ∷ Idle ∷ At 0 ∷ [])
+    -- "`e` to a slot whose entry or body .. breaks the image's rules (1)": the text stays
+    ∷ Script (told "/1s4z8R" (packet 0x60) ∷ Damage 1088 120 ∷ runs "/1e4R" ∷ quiet ∷ told "/1$" (packetOf 0x61 "e4") ∷ [])
+    -- "At start a non-empty program 0 becomes the current text and runs"
+    ∷ Script (told "/1s0P7R" (packet 0x60) ∷ Idle ∷ Start ∷ Running ∷ told "/1$" (packetOf 0x40 "P7") ∷ Turn 15 1 0 Up 7 ∷ [])
+    -- "The record keeps the exponent of `j`"; `TR` is `T`
+    ∷ Script (runs "/1j8R" ∷ quiet ∷ quiet ∷ asked "/1?6" "8" ∷ runs "/1M50R" ∷ quiet ∷ told "/1TR" (packet 0x60) ∷ Idle ∷ [])
+    -- "until .. a homing that finds"; input 1 of the sample
+    ∷ Script (runs "/1Z5R" ∷ Turn 11 1 0 Down 5 ∷ Turn 11 1 5 Still 0 ∷ runs "/1Z5R" ∷ Turn 11 1 0 Down 5 ∷ Turn 15 1 2 Still 0 ∷ quiet ∷ runs "/1P1R" ∷ Turn 15 1 0 Up 1 ∷ [])
+    ∷ Script (runs "/1H01P1R" ∷ quiet ∷ Turn 14 1 0 Still 0 ∷ Turn 15 1 0 Up 1 ∷ [])
+    -- "then the edge, then the end of the range": at the end, an edge ends the move and no fault
+    ∷ Script (runs "/1z2147483647P0R" ∷ quiet ∷ quiet ∷ Turn 13 1 0 Still 0 ∷ Running ∷ quiet ∷ told "/1Q" (packet 0x60) ∷ [])
     -- "set by a fault stop and set to 0 when a run starts": refused frames and queries leave it
     ∷ Script (runs "/1D1R" ∷ quiet ∷ told "/1?0" (packetOf 0x6B "0") ∷ told "/1A" (packet 0x63) ∷ told "/1Q" (packet 0x6B) ∷ runs "/1M5R" ∷ [])
     ∷ []

@@ -4,7 +4,7 @@ use Prim.Native.Nat.{ℕ, zero, suc}
 use mathlib.Core.Path.{_≡_}
 use mathlib.Core.List.{List, [], _∷_, _++_}
 use mathlib.Core.Bool.{Bool, true, false, not, _&&_}
-use lib.ListN.{length, take, replicate}
+use lib.ListN.{length, take, replicate, set}
 use lib.Dec.{eqb}
 use Prim.Native.String as Text
 use Rattle.parts.specs.Parts.{same}
@@ -28,6 +28,9 @@ pub data Move : Type 0 where
   Turn : (sample ms steps : ℕ) (direction : Direction) (number : ℕ) → Move
   -- so many turns with the sample 15, a millisecond and all microsteps done
   Turns : ℕ → Move
+  -- a byte of the image becomes another, and a new start on the image as it stands
+  Damage : (at byte : ℕ) → Move
+  Start : Move
   Idle : Move
   Running : Move
   At : (position : ℕ) → Move
@@ -68,6 +71,8 @@ plays s [] = true
 plays s (Feed b n a ∷ ms) = eqb (fedBy s b buffer .consumed) n && same (answerBy s b) a && plays (afterFeed s b buffer) ms
 plays s (Turn sample time steps d n ∷ ms) = answers (turnedUnit s sample time steps .action) d n && plays (afterTurn s sample time steps) ms
 plays s (Turns n ∷ ms) = plays (afterTurns n s) ms
+plays s (Damage i b ∷ ms) = plays (state (s .unit) (set (s .image) i b)) ms
+plays s (Start ∷ ms) = plays (state (startOf 1 (s .image) .unit) (s .image)) ms
 plays s (Idle ∷ ms) = not (s .unit .core .running) && plays s ms
 plays s (Running ∷ ms) = s .unit .core .running && plays s ms
 plays s (At p ∷ ms) = eqb (s .unit .core .motor .position) p && plays s ms
