@@ -1,0 +1,115 @@
+// The operations that need no unit: `line`, `text`, `read`, `ramp`, `write`.
+use crate::fields;
+use crate::list;
+use crate::operation::Judge;
+use crate::state;
+use crate::telling;
+use answers::Found;
+use host::LineWritten;
+use lines::Slot;
+use ramp::Figures;
+use ramp::Verdict;
+
+// `line HEX`, `text HEX`, `read HEX`
+pub(crate) fn judge(as_what: Judge, line: &[u8], at: usize, out: &mut [u8]) -> usize {
+    let mut bytes = [0u8; state::LINE_BYTES];
+    let n = fields::read_bytes(line, at, &mut bytes);
+    judge_bytes(as_what, &bytes[0..n], out)
+}
+
+// What the library says of bytes.
+fn judge_bytes(as_what: Judge, bytes: &[u8], out: &mut [u8]) -> usize {
+    match as_what {
+        Judge::Line => tell_code(lines::check_line(bytes), out),
+        Judge::Text => tell_text(lines::check_text(bytes), out),
+        Judge::Packet => tell_packet(bytes, out),
+    }
+}
+
+// The code of a body.
+fn tell_code(code: u8, out: &mut [u8]) -> usize {
+    telling::add_number(out, 0, b"line ", code as u64)
+}
+
+// Whether a text may be stored.
+fn tell_text(good: bool, out: &mut [u8]) -> usize {
+    if good {
+        return telling::add(out, 0, b"text ok");
+    }
+    telling::add(out, 0, b"text bad")
+}
+
+// Status and data of a packet.
+fn tell_packet(bytes: &[u8], out: &mut [u8]) -> usize {
+    let p = answers::read_packet(bytes);
+    let found = p.found;
+    let Found::OnePacket = found else {
+        return telling::add(out, 0, b"refused packet");
+    };
+    let at = telling::add(out, 0, b"packet ");
+    let next = telling::add_hex(out, at, p.status as u64, 2);
+    telling::add_bytes(out, next, b" ", fields::part(bytes, p.at, p.length))
+}
+
+// `ramp V L N`, `ramp V L endless`
+pub(crate) fn tell_ramp(f: Figures, out: &mut [u8]) -> usize {
+    let verdict = f.verdict;
+    match verdict {
+        Verdict::Taken => tell_figures(f, out),
+        Verdict::RefusedV => telling::add(out, 0, b"refused V"),
+        Verdict::RefusedL => telling::add(out, 0, b"refused L"),
+        Verdict::RefusedN => telling::add(out, 0, b"refused N"),
+    }
+}
+
+// Peak and distance in decimal, each float as its bits.
+fn tell_figures(f: Figures, out: &mut [u8]) -> usize {
+    let r = f.floats;
+    let mut at = telling::add_number(out, 0, b"ramp ", f.peak as u64);
+    at = telling::add_number(out, at, b" ", f.distance);
+    at = add_float(out, at, r.speed);
+    at = add_float(out, at, r.acceleration);
+    add_float(out, at, r.time)
+}
+
+// Adds a space and the bits of a float.
+fn add_float(out: &mut [u8], at: usize, x: f64) -> usize {
+    let next = telling::add(out, at, b" ");
+    telling::add_hex(out, next, bits_of(x), 16)
+}
+
+// The bits of a float; of every not-a-number those of one.
+fn bits_of(x: f64) -> u64 {
+    if x != x {
+        0x7ff8_0000_0000_0000
+    } else {
+        f64::to_bits(x)
+    }
+}
+
+// `write SLOT RUN LIST`, with the list from a place on
+pub(crate) fn write(
+    slot: Slot,
+    run: bool,
+    line: &[u8],
+    at: usize,
+    count: usize,
+    buffer: &mut [u8],
+    out: &mut [u8],
+) -> usize {
+    let commands = list::list_of(line, at);
+    let written = host::write_line(slot, commands, count, run, buffer);
+    tell_written(written, buffer, out)
+}
+
+// What came of writing a line.
+fn tell_written(written: LineWritten, buffer: &[u8], out: &mut [u8]) -> usize {
+    match written {
+        LineWritten::Bytes(n) => {
+            let count = fields::up_to(n, buffer);
+            telling::add_bytes(out, 0, b"wrote ", &buffer[0..count])
+        }
+        LineWritten::Refused(code) => telling::add_number(out, 0, b"refused ", code as u64),
+        LineWritten::NoRoom => telling::add(out, 0, b"refused buffer"),
+    }
+}

@@ -1,0 +1,259 @@
+// The operations on the unit, and what they answer.
+use crate::fields;
+use crate::operation::OnUnit;
+use crate::state;
+use crate::state::Bench;
+use crate::state::Said;
+use crate::telling;
+use answers::Found;
+use drive::Fed;
+use drive::FeedAnswer;
+use drive::StartAnswer;
+use drive::StartedUnit;
+use drive::TurnAnswer;
+use drive::TurnedUnit;
+use turns::Action;
+use turns::Core;
+use turns::Direction;
+
+// The numbers that `unit` tells.
+const NUMBERS: usize = 14;
+
+// `start N`
+pub(crate) fn start(b: Bench, number: u8, image: &[u8], out: &mut [u8]) -> Said {
+    let s = drive::start(number, image);
+    let answer = s.answer;
+    Said {
+        bench: started(b, s),
+        length: tell_start(answer, out),
+    }
+}
+
+// The bench after a start; a refused one leaves the unit as it was.
+fn started(b: Bench, s: StartedUnit) -> Bench {
+    let answer = s.answer;
+    let StartAnswer::Started = answer else {
+        return b;
+    };
+    let u = s.unit;
+    state::with_unit(b, u)
+}
+
+// What came of a start.
+fn tell_start(answer: StartAnswer, out: &mut [u8]) -> usize {
+    match answer {
+        StartAnswer::Started => telling::add(out, 0, b"started"),
+        StartAnswer::UnitNumber => telling::add(out, 0, b"refused unit-number"),
+        StartAnswer::ImageLength => telling::add(out, 0, b"refused image-length"),
+        StartAnswer::ImageBad => telling::add(out, 0, b"refused image-bad"),
+    }
+}
+
+// An operation on the unit, where there is one.
+pub(crate) fn on_unit(
+    b: Bench,
+    on: OnUnit,
+    line: &[u8],
+    image: &mut [u8],
+    buffer: &mut [u8],
+    out: &mut [u8],
+) -> Said {
+    if !b.started {
+        return Said {
+            bench: b,
+            length: telling::add(out, 0, b"no unit"),
+        };
+    }
+    match on {
+        OnUnit::Turn { sample, ms, steps } => turn(b, sample, ms, steps, image, out),
+        OnUnit::Feed { typed, at } => feed_line(b, typed, line, at, image, buffer, out),
+        OnUnit::Tell => Said {
+            bench: b,
+            length: tell(b, out),
+        },
+    }
+}
+
+// `feed HEX`, or a typed line
+fn feed_line(
+    b: Bench,
+    typed: bool,
+    line: &[u8],
+    at: usize,
+    image: &mut [u8],
+    buffer: &mut [u8],
+    out: &mut [u8],
+) -> Said {
+    let mut bytes = [0u8; state::LINE_BYTES];
+    let end = bytes_of(typed, line, at, &mut bytes);
+    let n = fields::up_to(end, &bytes);
+    feed(b, &bytes[0..n], typed, image, buffer, out)
+}
+
+// The bytes that a line gives from a place on; of a typed one the line with a CR.
+fn bytes_of(typed: bool, line: &[u8], at: usize, bytes: &mut [u8]) -> usize {
+    if typed {
+        let n = telling::add(bytes, 0, line);
+        return telling::add(bytes, n, b"\r");
+    }
+    fields::read_bytes(line, at, bytes)
+}
+
+// Bytes fed in one call.
+fn feed(
+    b: Bench,
+    bytes: &[u8],
+    typed: bool,
+    image: &mut [u8],
+    buffer: &mut [u8],
+    out: &mut [u8],
+) -> Said {
+    let u = b.unit;
+    let f = drive::feed(u, bytes, image, buffer);
+    let v = f.unit;
+    let n = fields::up_to(f.answered, buffer);
+    Said {
+        bench: state::with_unit(b, v),
+        length: tell_feed(f, typed, &buffer[0..n], out),
+    }
+}
+
+// What came of a feed.
+fn tell_feed(f: Fed, typed: bool, packet: &[u8], out: &mut [u8]) -> usize {
+    let answer = f.answer;
+    match answer {
+        FeedAnswer::Taken => tell_fed(f.consumed, typed, packet, out),
+        FeedAnswer::BufferShort => telling::add(out, 0, b"refused buffer"),
+        FeedAnswer::ImageLength => telling::add(out, 0, b"refused image-length"),
+    }
+}
+
+// How many bytes were consumed, and the answer; of a typed line the answer alone, as text.
+fn tell_fed(consumed: usize, typed: bool, packet: &[u8], out: &mut [u8]) -> usize {
+    if typed {
+        return tell_packet(packet, out);
+    }
+    let at = telling::add_number(out, 0, b"fed ", consumed as u64);
+    telling::add_bytes(out, at, b" ", packet)
+}
+
+// An answer as text; `-` where none came.
+fn tell_packet(packet: &[u8], out: &mut [u8]) -> usize {
+    let p = answers::read_packet(packet);
+    let found = p.found;
+    let Found::OnePacket = found else {
+        return telling::add(out, 0, b"-");
+    };
+    let at = tell_status(p.idle, p.code, out);
+    if p.length == 0 {
+        return at;
+    }
+    let next = telling::add(out, at, b" ");
+    telling::add(out, next, fields::part(packet, p.at, p.length))
+}
+
+// Whether the unit is idle, and the code.
+fn tell_status(idle: bool, code: u8, out: &mut [u8]) -> usize {
+    if idle {
+        return telling::add_number(out, 0, b"idle ", code as u64);
+    }
+    telling::add_number(out, 0, b"busy ", code as u64)
+}
+
+// `turn SAMPLE MS STEPS`
+fn turn(b: Bench, sample: u8, ms: u32, steps: u32, image: &[u8], out: &mut [u8]) -> Said {
+    let u = b.unit;
+    let t = drive::turn(u, sample, ms, steps, image);
+    let v = t.unit;
+    Said {
+        bench: state::with_unit(b, v),
+        length: tell_turn(t, out),
+    }
+}
+
+// What came of a turn.
+fn tell_turn(t: TurnedUnit, out: &mut [u8]) -> usize {
+    let answer = t.answer;
+    let action = t.action;
+    match answer {
+        TurnAnswer::Taken => tell_action(action, out),
+        TurnAnswer::ImageLength => telling::add(out, 0, b"refused image-length"),
+        TurnAnswer::Sample => telling::add(out, 0, b"refused sample"),
+        TurnAnswer::Steps => telling::add(out, 0, b"refused steps"),
+    }
+}
+
+// The next motor action.
+fn tell_action(action: Action, out: &mut [u8]) -> usize {
+    let direction = action.direction;
+    match direction {
+        Direction::Up => telling::add_number(out, 0, b"act up ", action.number as u64),
+        Direction::Down => telling::add_number(out, 0, b"act down ", action.number as u64),
+        Direction::Still => telling::add(out, 0, b"act none"),
+    }
+}
+
+// `unit`
+fn tell(b: Bench, out: &mut [u8]) -> usize {
+    let u = b.unit;
+    let c = u.core;
+    let f = c.flow;
+    let text = u.text;
+    let at = tell_state(c.running, out);
+    let next = tell_numbers(numbers_of(c), at, out);
+    tell_text(text, f.length, next, out)
+}
+
+// Whether the unit runs.
+fn tell_state(running: bool, out: &mut [u8]) -> usize {
+    if running {
+        return telling::add(out, 0, b"unit running");
+    }
+    telling::add(out, 0, b"unit idle")
+}
+
+// The numbers of a unit, each by its name.
+fn tell_numbers(numbers: [u32; NUMBERS], at: usize, out: &mut [u8]) -> usize {
+    telling::add_numbers(
+        out,
+        at,
+        b" code=# position=# known=# V=# L=# j=# o=# m=# h=# f=# F=# J=# baud=# sample=#",
+        &numbers,
+    )
+}
+
+// The numbers of a unit, in the order of those names.
+fn numbers_of(c: Core) -> [u32; NUMBERS] {
+    let m = c.motor;
+    let known = m.known as u32;
+    let sample = m.sample as u32;
+    let s = c.settings;
+    let j = step_size(s.exponent);
+    [
+        c.code as u32,
+        m.position,
+        known,
+        s.speed,
+        s.acceleration,
+        j,
+        s.correction,
+        s.moving,
+        s.holding,
+        s.flag,
+        s.turned,
+        s.outputs,
+        s.baud,
+        sample,
+    ]
+}
+
+// The current text: the first bytes of an array.
+fn tell_text(text: [u8; 256], length: usize, at: usize, out: &mut [u8]) -> usize {
+    let n = fields::up_to(length, &text);
+    telling::add_bytes(out, at, b" text=", &text[0..n])
+}
+
+// 2 to the kept exponent of `j`, as `?6` tells it.
+fn step_size(exponent: u32) -> u32 {
+    if exponent < 8 { 1 << exponent } else { 256 }
+}
