@@ -5,7 +5,8 @@
 //! The words in quotes in the comments are the paper's. The model is the
 //! judge in a comparison: [`bench`] speaks the tester's language over it,
 //! [`random`] writes scripts in that language, [`kinds`] names what came
-//! back, [`shrink`] makes a disagreement short.
+//! back, [`shrink`] makes a disagreement short. [`pace`] repeats feed and
+//! turn, to time them.
 
 pub mod address;
 pub mod command;
@@ -22,6 +23,7 @@ pub mod unit;
 
 pub mod bench;
 pub mod kinds;
+pub mod pace;
 pub mod random;
 pub mod shrink;
 

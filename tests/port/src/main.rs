@@ -1,8 +1,12 @@
-//! `port [SEED] [CALLS]`: the C port against the independent model, on random bodies, texts, images and ramps.
-//! The last line is 'N passed, M failed'.
+//! `port [SEED] [CALLS]`: the C port against the independent model, on random bodies, texts, images and ramps; and the proved
+//! program `pace` against the model's, on all that the bench times. The last line is 'N passed, M failed'.
+
+use std::io::Write;
+use std::process::{Command, Stdio};
 
 use drive_model::image::{self, IMAGE};
 use drive_model::line;
+use drive_model::pace::{self, Mode};
 use drive_model::ramp::{self, Length, RampRefusal};
 use drive_model::random::{Lines, Random};
 
@@ -124,9 +128,27 @@ fn check_ramp(random: &mut Random, tally: &mut Tally) {
     tally.same(|| format!("ramp {v} {l} {endless} {n}"), format!("ramp {}", wanted.0), found, wanted);
 }
 
+/// The program that `rt check` proves and writes.
+const PACE: &str = concat!(env!("CARGO_MANIFEST_DIR"), "/../../target/bin/pace");
+
+/// What feed and turn answer, a thousand times.
+fn check_pace(mode: &Mode, tally: &mut Tally) {
+    let input = mode.input(1000);
+    let wanted = format!("{}\n", pace::digest(&input).expect("what `pace` reads"));
+    let found = run_pace(&input).unwrap_or_else(|error| format!("{PACE}: {error}"));
+    tally.same(|| mode.name.to_string(), "pace".to_string(), found, wanted);
+}
+
+fn run_pace(input: &[u8]) -> std::io::Result<String> {
+    let mut child = Command::new(PACE).stdin(Stdio::piped()).stdout(Stdio::piped()).spawn()?;
+    child.stdin.take().expect("a pipe").write_all(input)?;
+    let output = child.wait_with_output()?;
+    Ok(String::from_utf8_lossy(&output.stdout).into_owned())
+}
+
 /// Every answer that must have come.
-const KINDS: [&str; 12] = [
-    "line 0", "line 2", "line 3", "text 0", "text 1", "image 0", "image 1", "image 2", "ramp 0", "ramp 1", "ramp 2", "ramp 3",
+const KINDS: [&str; 13] = [
+    "line 0", "line 2", "line 3", "text 0", "text 1", "image 0", "image 1", "image 2", "ramp 0", "ramp 1", "ramp 2", "ramp 3", "pace",
 ];
 
 fn main() {
@@ -142,6 +164,7 @@ fn main() {
             _ => check_ramp(&mut random, &mut tally),
         }
     }
+    pace::MODES.iter().for_each(|mode| check_pace(mode, &mut tally));
     for (kind, count) in &tally.answers {
         println!("{kind}: {count}");
     }

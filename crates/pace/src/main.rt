@@ -1,0 +1,255 @@
+// What feed and turn cost: a stream of bytes, or a turn, again and again, and a digest of all that was answered. Unit 1 on the
+// empty image. The first line of standard input is `feed MOST TIMES` or `turn STEPS TIMES`; the bytes behind it are the stream.
+ghost use Prim.Native.Nat.{_≤_, _<_};
+ghost use lib.ListN.{length};
+use digits::Operand;
+use drive::Drive;
+use libc::STDIN_FILENO;
+use libc::STDOUT_FILENO;
+use turns::Direction;
+
+const IMAGE_BYTES: usize = 4160;
+
+const BUFFER_BYTES: usize = 262;
+
+// Where the status of an answer stands.
+const STATUS_AT: usize = 2;
+
+// `feed ` and `turn ` have so many bytes.
+const WORD_BYTES: usize = 5;
+
+// What the first line asks for: which call, with what, how often; and where the stream begins.
+struct Task {
+    turns: bool,
+    number: u32,
+    times: u32,
+    at: usize,
+}
+
+// A unit, and the digest of what it has answered.
+struct Paced {
+    unit: Drive,
+    sum: u32,
+}
+
+// The same, with the number of the last action.
+struct Turning {
+    unit: Drive,
+    sum: u32,
+    number: u32,
+}
+
+fn main() {
+    let mut input = io::buffer();
+    let n = io::read_full(STDIN_FILENO, &mut input);
+    let sum = pace(&input[..n]);
+    io::print_decimal(STDOUT_FILENO, sum as u64);
+    io::write_all(STDOUT_FILENO, b"\n");
+}
+
+// The digest of what the input asks for.
+fn pace(input: &[u8]) -> u32 {
+    let task = task_of(input);
+    let at = task.at;
+    if input.len() < at {
+        return 0;
+    }
+    let mut image = [0u8; IMAGE_BYTES];
+    image::clear(&mut image);
+    let mut buffer = [0u8; BUFFER_BYTES];
+    let s = drive::start(1, &image);
+    let u = s.unit;
+    let p = Paced { unit: u, sum: 0 };
+    if task.turns {
+        return turn_stream(
+            p,
+            &input[at..],
+            task.number,
+            task.times,
+            &mut image,
+            &mut buffer,
+        );
+    }
+    feed_times(
+        p,
+        &input[at..],
+        task.number as usize,
+        task.times,
+        &mut image,
+        &mut buffer,
+    )
+}
+
+// What the first line asks for; nothing where it cannot be read.
+fn task_of(input: &[u8]) -> Task {
+    let Operand::Number(number, next) = digits::read_operand(input, WORD_BYTES) else {
+        return no_task();
+    };
+    if input.len() <= next {
+        return no_task();
+    }
+    let Operand::Number(times, end) = digits::read_operand(input, next + 1) else {
+        return no_task();
+    };
+    if input.len() <= end {
+        return no_task();
+    }
+    Task {
+        turns: input[0] == b't',
+        number: number,
+        times: times,
+        at: end + 1,
+    }
+}
+
+fn no_task() -> Task {
+    Task {
+        turns: false,
+        number: 0,
+        times: 0,
+        at: 0,
+    }
+}
+
+// The stream fed again and again.
+fn feed_times(
+    p: Paced,
+    stream: &[u8],
+    most: usize,
+    times: u32,
+    image: &mut [u8],
+    buffer: &mut [u8],
+) -> u32 {
+    let mut now = p;
+    for _ in 0..times {
+        now = feed_stream(now, stream, most, image, buffer);
+    }
+    now.sum
+}
+
+// The stream fed once, in calls of at most so many bytes.
+fn feed_stream(p: Paced, stream: &[u8], most: usize, image: &mut [u8], buffer: &mut [u8]) -> Paced {
+    let mut u = p.unit;
+    let mut sum = p.sum;
+    let mut at: usize = 0;
+    while at < stream.len() {
+        let end = end_of(stream, at, most);
+        let f = drive::feed(u, &stream[at..end], image, buffer);
+        let v = f.unit;
+        u = v;
+        sum = add_answer(sum, f.answered, buffer);
+        let consumed = f.consumed;
+        sum = add(sum, consumed);
+        at = past(stream, at, consumed);
+    }
+    Paced { unit: u, sum: sum }
+}
+
+// Where a call of at most so many bytes ends.
+fn end_of(stream: &[u8], at: usize, most: usize) -> usize
+    requires { ⌜ at ≤ length (now stream) ⌝ }
+    ensures { λ r. ⌜ (at ≤ r) × (r ≤ length (now (stream .entry))) ⌝ }
+{
+    if stream.len() - at < most {
+        return stream.len();
+    }
+    at + most
+}
+
+// The place behind what was consumed: the end of the stream where that is nothing, or more than there is.
+fn past(stream: &[u8], at: usize, consumed: usize) -> usize
+    requires { ⌜ at < length (now stream) ⌝ }
+    ensures { λ r. ⌜ (at < r) × (r ≤ length (now (stream .entry))) ⌝ }
+{
+    if consumed == 0 {
+        return stream.len();
+    }
+    if stream.len() - at < consumed {
+        return stream.len();
+    }
+    at + consumed
+}
+
+// The digest with an answer, where there is one: its length and its status.
+fn add_answer(sum: u32, answered: usize, buffer: &[u8]) -> u32 {
+    if answered == 0 {
+        return sum;
+    }
+    let longer = add(sum, answered);
+    if buffer.len() <= STATUS_AT {
+        return longer;
+    }
+    std::num::wrapping_add_u32(longer, wide(buffer[STATUS_AT]))
+}
+
+fn add(sum: u32, n: usize) -> u32 {
+    std::num::wrapping_add_u32(sum, (n % 4294967296) as u32)
+}
+
+fn wide(x: u8) -> u32 {
+    x as u32
+}
+
+// The stream fed once, then a turn again and again.
+fn turn_stream(
+    p: Paced,
+    stream: &[u8],
+    steps: u32,
+    times: u32,
+    image: &mut [u8],
+    buffer: &mut [u8],
+) -> u32 {
+    let fed = feed_stream(p, stream, stream.len(), image, buffer);
+    let u = fed.unit;
+    let t = Turning {
+        unit: u,
+        sum: fed.sum,
+        number: 0,
+    };
+    add_position(turn_times(t, steps, times, image))
+}
+
+// A turn again and again.
+fn turn_times(t: Turning, steps: u32, times: u32, image: &[u8]) -> Turning {
+    let mut now = t;
+    for i in 0..times {
+        now = turn_once(now, (i % 16) as u8, steps, image);
+    }
+    now
+}
+
+// One turn: at most so many of the steps that the action before allowed are reported.
+fn turn_once(t: Turning, sample: u8, steps: u32, image: &[u8]) -> Turning {
+    let u = t.unit;
+    let turned = drive::turn(u, sample, 1, least(steps, t.number), image);
+    let v = turned.unit;
+    let action = turned.action;
+    let direction = action.direction;
+    let number = action.number;
+    Turning {
+        unit: v,
+        sum: std::num::wrapping_add_u32(t.sum, code_of(direction, number)),
+        number: number,
+    }
+}
+
+// The digest with the position.
+fn add_position(t: Turning) -> u32 {
+    let u = t.unit;
+    let core = u.core;
+    let motor = core.motor;
+    std::num::wrapping_add_u32(t.sum, motor.position)
+}
+
+fn least(a: u32, b: u32) -> u32 {
+    if a < b { a } else { b }
+}
+
+// An action as a number.
+fn code_of(direction: Direction, number: u32) -> u32 {
+    match direction {
+        Direction::Up => number,
+        Direction::Down => std::num::wrapping_add_u32(number, 1),
+        Direction::Still => 7,
+    }
+}
