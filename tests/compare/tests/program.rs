@@ -41,6 +41,13 @@ fn too_few_operations_for_all_kinds() {
 }
 
 #[test]
+fn words_for_the_program() {
+    let output = compare(&["env", "1", "10", "MODEL_BROKEN=1", env!("CARGO_BIN_EXE_model")], false);
+    let text = String::from_utf8(output.stdout).unwrap();
+    assert!(text.contains("\n10 passed, "), "{text}");
+}
+
+#[test]
 fn arguments_that_cannot_be_used() {
     assert_eq!(compare(&[], false).status.code(), Some(2));
     assert_eq!(compare(&["./no such program"], false).status.code(), Some(2));

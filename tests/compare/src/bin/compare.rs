@@ -1,11 +1,12 @@
-//! `compare PROGRAM [SEED] [OPERATIONS]`: runs a bench program and the model
-//! on the same random scripts and compares every line of answer.
+//! `compare PROGRAM [SEED] [OPERATIONS] [WORD..]`: runs a bench program and the
+//! model on the same random scripts and compares every line of answer. The
+//! words are given to the program.
 //!
 //! A disagreement is shrunk and printed. At the end stand the counts of each
 //! kind of answer and event; one that did not occur is a failure.
 
+use std::ffi::OsString;
 use std::io::{Read, Write};
-use std::path::{Path, PathBuf};
 use std::process::{Command, ExitCode, Stdio};
 use std::sync::mpsc;
 use std::thread;
@@ -28,15 +29,21 @@ const SHRINKING: Duration = Duration::from_secs(60);
 /// How often the programs are run to make a script shorter.
 const TRIES: usize = 3000;
 
+/// How a bench program is started.
+struct Program {
+    name: OsString,
+    words: Vec<OsString>,
+}
+
 struct Wanted {
-    program: PathBuf,
+    program: Program,
     seed: u64,
     operations: usize,
 }
 
 fn main() -> ExitCode {
     let Some(wanted) = wanted() else {
-        eprintln!("usage: compare PROGRAM [SEED] [OPERATIONS]");
+        eprintln!("usage: compare PROGRAM [SEED] [OPERATIONS] [WORD..]");
         return ExitCode::from(2);
     };
     let mut counts = Counts::new();
@@ -66,7 +73,7 @@ fn main() -> ExitCode {
 
 fn wanted() -> Option<Wanted> {
     let mut arguments = std::env::args_os().skip(1);
-    let program = PathBuf::from(arguments.next()?);
+    let name = arguments.next()?;
     let mut number = |default: u64| match arguments.next() {
         None => Some(default),
         Some(text) => text.to_str()?.parse().ok(),
@@ -74,7 +81,7 @@ fn wanted() -> Option<Wanted> {
     let seed = number(SEED)?;
     let operations = number(OPERATIONS as u64)?;
     let operations = usize::try_from(operations).ok()?;
-    arguments.next().is_none().then_some(Wanted { program, seed, operations })
+    Some(Wanted { program: Program { name, words: arguments.collect() }, seed, operations })
 }
 
 /// Prints the counts; fails where a kind is missing or has no name.
@@ -95,14 +102,14 @@ fn report(counts: &Counts, passed: usize) -> ExitCode {
 }
 
 /// The place of the first disagreement of a round.
-fn first_in_round(program: &Path, steps: &[Step]) -> Option<usize> {
+fn first_in_round(program: &Program, steps: &[Step]) -> Option<usize> {
     let operations: Vec<&[u8]> = steps.iter().map(|step| &step.operation[..]).collect();
     let expected: Vec<&[u8]> = steps.iter().map(|step| &step.answer[..]).collect();
     first_difference(&expected, &lines(&run(program, &operations, PATIENCE)))
 }
 
 /// The place of the first disagreement of a script that is run alone.
-fn first_of_script(program: &Path, script: &[Vec<u8>]) -> Option<usize> {
+fn first_of_script(program: &Program, script: &[Vec<u8>]) -> Option<usize> {
     let operations: Vec<&[u8]> = script.iter().map(Vec::as_slice).collect();
     let expected = answers(script);
     let expected: Vec<&[u8]> = expected.iter().map(Vec::as_slice).collect();
@@ -111,7 +118,7 @@ fn first_of_script(program: &Path, script: &[Vec<u8>]) -> Option<usize> {
 
 /// The operations up to a disagreement, from the last place on from which
 /// nothing before matters; all of them if the disagreement does not show so.
-fn script_of(program: &Path, steps: &[Step]) -> Script {
+fn script_of(program: &Program, steps: &[Step]) -> Script {
     let operations: Script = steps.iter().map(|step| step.operation.clone()).collect();
     let begin = steps.iter().rposition(|step| step.begins).unwrap_or(0);
     match first_of_script(program, &operations[begin..]) {
@@ -122,7 +129,7 @@ fn script_of(program: &Path, steps: &[Step]) -> Script {
 
 /// Shrinks the operations up to a disagreement and prints them with both
 /// answers.
-fn show(program: &Path, steps: &[Step]) {
+fn show(program: &Program, steps: &[Step]) {
     let end = Instant::now() + SHRINKING;
     let first =
         |script: &[Vec<u8>]| (Instant::now() < end).then(|| first_of_script(program, script)).flatten();
@@ -199,11 +206,11 @@ fn lines(output: &[u8]) -> Vec<&[u8]> {
 
 /// What the program writes for these operations. One that takes too long is
 /// ended, and a line says so after what it wrote.
-fn run(program: &Path, operations: &[&[u8]], patience: Duration) -> Vec<u8> {
-    let child =
-        Command::new(program).stdin(Stdio::piped()).stdout(Stdio::piped()).stderr(Stdio::null()).spawn();
-    let mut child = child.unwrap_or_else(|error| {
-        eprintln!("{}: {error}", program.display());
+fn run(program: &Program, operations: &[&[u8]], patience: Duration) -> Vec<u8> {
+    let mut command = Command::new(&program.name);
+    command.args(&program.words).stdin(Stdio::piped()).stdout(Stdio::piped()).stderr(Stdio::null());
+    let mut child = command.spawn().unwrap_or_else(|error| {
+        eprintln!("{}: {error}", program.name.to_string_lossy());
         std::process::exit(2)
     });
     let mut input = operations.join(&b'\n');
