@@ -48,25 +48,21 @@ fn main() -> ExitCode {
     };
     let mut counts = Counts::new();
     let mut passed = 0;
-    for number in 0.. {
-        let size = ROUND.min(wanted.operations - passed);
-        if size == 0 {
-            break;
-        }
-        let seed = wanted.seed.wrapping_mul(0x1_0000_0001).wrapping_add(number);
-        let mut round = Round::new(seed);
-        let steps: Vec<Step> = (0..size).map(|_| round.step()).collect();
-        if let Some(place) = first_in_round(&wanted.program, &steps) {
+    let sizes = (0..wanted.operations).step_by(ROUND).map(|begin| ROUND.min(wanted.operations - begin));
+    let rounds: Vec<(u64, usize)> = (0..).zip(sizes).collect();
+    let together = thread::available_parallelism().map_or(1, |processors| processors.get());
+    for (steps, place) in rounds.chunks(together).flat_map(|some| play(&wanted, some)) {
+        if let Some(place) = place {
             println!("disagreement at operation {} (seed {})", passed + place + 1, wanted.seed);
             show(&wanted.program, &steps[..=place]);
             println!("{} passed, 1 failed", passed + place);
             return ExitCode::FAILURE;
         }
+        passed += steps.len();
         for step in steps {
             counts.add(step.kind);
             step.event.into_iter().for_each(|event| counts.add(event));
         }
-        passed += size;
     }
     report(&counts, passed)
 }
@@ -99,6 +95,21 @@ fn report(counts: &Counts, passed: usize) -> ExitCode {
     } else {
         ExitCode::FAILURE
     }
+}
+
+/// Some rounds, by number and size, at the same time: the steps of each, and
+/// the place of its first disagreement.
+fn play(wanted: &Wanted, rounds: &[(u64, usize)]) -> Vec<(Vec<Step>, Option<usize>)> {
+    let play_one = |&(number, size): &(u64, usize)| {
+        let mut round = Round::new(wanted.seed.wrapping_mul(0x1_0000_0001).wrapping_add(number));
+        let steps: Vec<Step> = (0..size).map(|_| round.step()).collect();
+        let place = first_in_round(&wanted.program, &steps);
+        (steps, place)
+    };
+    thread::scope(|scope| {
+        let running: Vec<_> = rounds.iter().map(|round| scope.spawn(move || play_one(round))).collect();
+        running.into_iter().map(|round| round.join().expect("a round that ends")).collect()
+    })
 }
 
 /// The place of the first disagreement of a round.
