@@ -1,33 +1,29 @@
-//! `port [SEED] [CALLS]`: the C port against the independent model, on random bodies, texts, images and ramps; and the proved
-//! program `pace` against the model's, on all that the bench times. The last line is 'N passed, M failed'.
+//! `port PROGRAM [SEED] [CALLS]`: the C port, linked into `calls.c`, against the independent model, on random bodies, texts,
+//! images and ramps; and the proved program `pace` against the model's, on all that the bench times. PROGRAM is the linked
+//! `calls`. The last line is 'N passed, M failed'.
 
-use std::io::Write;
-use std::process::{Command, Stdio};
+use std::fmt;
+use std::io::{self, Write};
+use std::process::{Command, Output, Stdio};
 
-use drive_model::image::{self, IMAGE};
-use drive_model::line;
+use calls::{Call, FIGURES};
+use drive_model::image::IMAGE;
 use drive_model::pace::{self, Mode};
-use drive_model::ramp::{self, Length, RampRefusal};
 use drive_model::random::{Lines, Random};
 
-mod c {
-    extern "C" {
-        pub fn dt_check_line(body: *const u8, length: usize) -> u32;
-        pub fn dt_check_text(text: *const u8, length: usize) -> u32;
-        pub fn dt_check_image(image: *const u8, length: usize) -> u32;
-        pub fn dt_ramp_check(v: u32, l: u32, endless: u32, n: u32) -> u32;
-        pub fn dt_ramp_peak(v: u32, l: u32, endless: u32, n: u32) -> u32;
-        pub fn dt_ramp_distance(v: u32, l: u32, endless: u32, n: u32) -> u64;
-        pub fn dt_ramp_speed(v: u32, l: u32, endless: u32, n: u32) -> f64;
-        pub fn dt_ramp_acceleration(v: u32, l: u32, endless: u32, n: u32) -> f64;
-        pub fn dt_ramp_time(v: u32, l: u32, endless: u32, n: u32) -> f64;
-    }
-}
+/// What runs a program for x86-64 on any processor.
+const ON: &str = concat!(env!("CARGO_MANIFEST_DIR"), "/../on-x86-64");
+/// The program that `rt check` proves and writes.
+const PACE: &str = concat!(env!("CARGO_MANIFEST_DIR"), "/../../target/bin/pace");
+/// Calls of one process.
+const BATCH: usize = 10_000;
 
-/// Calls a check of a slice.
-fn slice(check: unsafe extern "C" fn(*const u8, usize) -> u32, bytes: &[u8]) -> u32 {
-    // SAFETY: the pointer and the length are those of one slice, which is only read.
-    unsafe { check(bytes.as_ptr(), bytes.len()) }
+/// Starts a program for x86-64 on an input that it reads to the end before it writes.
+fn start(program: &str, input: &[u8]) -> io::Result<Output> {
+    let mut child = Command::new(ON).arg(program).stdin(Stdio::piped()).stdout(Stdio::piped()).spawn()?;
+    // A program that ends early says more by how it ends than the broken pipe does.
+    let _ = child.stdin.take().expect("a pipe").write_all(input);
+    child.wait_with_output()
 }
 
 /// How often each answer came, and what did not agree.
@@ -39,7 +35,7 @@ struct Tally {
 }
 
 impl Tally {
-    fn same<T: PartialEq + std::fmt::Debug>(&mut self, what: impl Fn() -> String, kind: String, found: T, wanted: T) {
+    fn same<T: PartialEq + fmt::Debug>(&mut self, what: impl Fn() -> String, kind: String, found: T, wanted: T) {
         *self.answers.entry(kind).or_default() += 1;
         if found == wanted {
             self.passed += 1;
@@ -70,30 +66,24 @@ fn body(random: &mut Random) -> Vec<u8> {
     }
 }
 
-fn check_line(random: &mut Random, tally: &mut Tally) {
-    let body = body(random);
-    let wanted = line::check_idle(&body).map_or_else(|code| code as u32, |()| 0);
-    tally.same(|| format!("line {:?}", String::from_utf8_lossy(&body)), format!("line {wanted}"), slice(c::dt_check_line, &body), wanted);
-}
-
-fn check_text(random: &mut Random, tally: &mut Tally) {
-    let text = if random.chance(50) { lines(random).stored_text() } else { lines(random).text() };
-    let wanted = u32::from(!line::is_stored_text(&text));
-    tally.same(|| format!("text {:?}", String::from_utf8_lossy(&text)), format!("text {wanted}"), slice(c::dt_check_text, &text), wanted);
-}
-
-fn check_image(random: &mut Random, tally: &mut Tally) {
-    let mut good = lines(random).image();
-    if random.chance(60) {
-        lines(random).damage_image(&mut good);
+fn text(random: &mut Random) -> Vec<u8> {
+    if random.chance(50) {
+        lines(random).stored_text()
+    } else {
+        lines(random).text()
     }
-    let mut wanted = if image::is_good(&good) { 0 } else { 2 };
-    let mut bytes = good.to_vec();
+}
+
+fn image(random: &mut Random) -> Vec<u8> {
+    let mut image = lines(random).image();
+    if random.chance(60) {
+        lines(random).damage_image(&mut image);
+    }
+    let mut bytes = image.to_vec();
     if random.chance(10) {
         bytes.resize(random.pick(&[0, 1, 64, IMAGE - 1, IMAGE + 1, 2 * IMAGE]), 0);
-        wanted = 1;
     }
-    tally.same(|| format!("image {bytes:02x?}"), format!("image {wanted}"), slice(c::dt_check_image, &bytes), wanted);
+    bytes
 }
 
 /// A number near a bound, or of any size up to it and past it.
@@ -104,64 +94,104 @@ fn number(random: &mut Random, bound: u32) -> u32 {
     }
 }
 
-fn check_ramp(random: &mut Random, tally: &mut Tally) {
+/// V, L, endless and N.
+fn move_of(random: &mut Random) -> [u32; 4] {
     let (v, l, n) = (number(random, 16_777_216), number(random, 65_000), number(random, 2_147_483_647));
-    let endless = random.pick(&[0, 0, 0, 1, 256, u32::MAX]);
-    let length = if endless == 0 { Length::Finite(n) } else { Length::Endless };
-    let wanted = match ramp::figures(v, l, length) {
-        Ok(f) => (0, f.peak, f.distance, f.ramp.speed.to_bits(), f.ramp.acceleration.to_bits(), f.ramp.time.to_bits()),
-        Err(RampRefusal::Speed) => (1, 0, 0, 0, 0, 0),
-        Err(RampRefusal::Slope) => (2, 0, 0, 0, 0, 0),
-        Err(RampRefusal::Length) => (3, 0, 0, 0, 0, 0),
-    };
-    // SAFETY: these take and return plain numbers.
-    let found = unsafe {
-        (
-            c::dt_ramp_check(v, l, endless, n),
-            c::dt_ramp_peak(v, l, endless, n),
-            c::dt_ramp_distance(v, l, endless, n),
-            c::dt_ramp_speed(v, l, endless, n).to_bits(),
-            c::dt_ramp_acceleration(v, l, endless, n).to_bits(),
-            c::dt_ramp_time(v, l, endless, n).to_bits(),
-        )
-    };
-    tally.same(|| format!("ramp {v} {l} {endless} {n}"), format!("ramp {}", wanted.0), found, wanted);
+    [v, l, random.pick(&[0, 0, 0, 1, 256, u32::MAX]), n]
 }
 
-/// The program that `rt check` proves and writes.
-const PACE: &str = concat!(env!("CARGO_MANIFEST_DIR"), "/../../target/bin/pace");
+/// One call, or those of all figures of a ramp.
+fn case(random: &mut Random) -> Vec<Call> {
+    match random.below(10) {
+        0..=4 => vec![Call::Line(body(random))],
+        5..=6 => vec![Call::Text(text(random))],
+        7 => vec![Call::Image(image(random))],
+        _ => {
+            let numbers = move_of(random);
+            FIGURES.map(|letter| Call::Ramp(letter, numbers)).to_vec()
+        }
+    }
+}
+
+/// The answers of a case.
+#[derive(PartialEq)]
+struct Answers(Vec<u64>);
+
+impl fmt::Debug for Answers {
+    fn fmt(&self, f: &mut fmt::Formatter) -> fmt::Result {
+        match &self.0[..] {
+            [] => f.write_str("nothing"),
+            [number] => number.fmt(f),
+            numbers => numbers.iter().fold(&mut f.debug_tuple(""), |tuple, number| tuple.field(number)).finish(),
+        }
+    }
+}
+
+fn word(call: &Call) -> &'static str {
+    match call {
+        Call::Line(_) => "line",
+        Call::Text(_) => "text",
+        Call::Image(_) => "image",
+        Call::Ramp(..) => "ramp",
+    }
+}
+
+fn operands(call: &Call) -> String {
+    match call {
+        Call::Line(bytes) | Call::Text(bytes) => format!("{:?}", String::from_utf8_lossy(bytes)),
+        Call::Image(bytes) => format!("{bytes:02x?}"),
+        Call::Ramp(_, [v, l, endless, n]) => format!("{v} {l} {endless} {n}"),
+    }
+}
+
+/// Compares all answers, as far as they go; false where the program did not end well.
+fn check_batch(program: &str, cases: &[Vec<Call>], tally: &mut Tally) -> bool {
+    let mut input = Vec::new();
+    cases.iter().flatten().for_each(|call| call.write(&mut input));
+    let output = start(program, &input).unwrap_or_else(|error| panic!("{ON}: {error}"));
+    let mut answers = output.stdout.chunks_exact(8).map(|bytes| u64::from_le_bytes(bytes.try_into().expect("8 bytes")));
+    for case in cases {
+        let wanted: Vec<u64> = case.iter().map(Call::answer).collect();
+        let found: Vec<u64> = answers.by_ref().take(case.len()).collect();
+        let short = found.len() < wanted.len();
+        let word = word(&case[0]);
+        tally.same(|| format!("{word} {}", operands(&case[0])), format!("{word} {}", wanted[0]), Answers(found), Answers(wanted));
+        if short {
+            break;
+        }
+    }
+    if !output.status.success() {
+        println!("{program} ended with {}", output.status);
+        tally.failed += 1;
+    }
+    output.status.success()
+}
 
 /// What feed and turn answer, a thousand times.
 fn check_pace(mode: &Mode, tally: &mut Tally) {
     let input = mode.input(1000);
     let wanted = format!("{}\n", pace::digest(&input).expect("what `pace` reads"));
-    let found = run_pace(&input).unwrap_or_else(|error| format!("{PACE}: {error}"));
+    let output = start(PACE, &input).unwrap_or_else(|error| panic!("{ON}: {error}"));
+    let found = String::from_utf8_lossy(&output.stdout).into_owned();
     tally.same(|| mode.name.to_string(), "pace".to_string(), found, wanted);
 }
 
-fn run_pace(input: &[u8]) -> std::io::Result<String> {
-    let mut child = Command::new(PACE).stdin(Stdio::piped()).stdout(Stdio::piped()).spawn()?;
-    child.stdin.take().expect("a pipe").write_all(input)?;
-    let output = child.wait_with_output()?;
-    Ok(String::from_utf8_lossy(&output.stdout).into_owned())
-}
-
 /// Every answer that must have come.
-const KINDS: [&str; 13] = [
-    "line 0", "line 2", "line 3", "text 0", "text 1", "image 0", "image 1", "image 2", "ramp 0", "ramp 1", "ramp 2", "ramp 3", "pace",
-];
+const KINDS: [&str; 13] =
+    ["line 0", "line 2", "line 3", "text 0", "text 1", "image 0", "image 1", "image 2", "ramp 0", "ramp 1", "ramp 2", "ramp 3", "pace"];
 
 fn main() {
-    let mut numbers = std::env::args().skip(1).map(|word| word.parse().expect("port [SEED] [CALLS]"));
+    let mut words = std::env::args().skip(1);
+    let program = words.next().expect("port PROGRAM [SEED] [CALLS]");
+    let mut numbers = words.map(|word| word.parse().expect("port PROGRAM [SEED] [CALLS]"));
     let mut random = Random::new(numbers.next().unwrap_or(1));
-    let calls: u64 = numbers.next().unwrap_or(1_000_000);
+    let mut left = numbers.next().unwrap_or(1_000_000) as usize;
     let mut tally = Tally::default();
-    for _ in 0..calls {
-        match random.below(10) {
-            0..=4 => check_line(&mut random, &mut tally),
-            5..=6 => check_text(&mut random, &mut tally),
-            7 => check_image(&mut random, &mut tally),
-            _ => check_ramp(&mut random, &mut tally),
+    while left > 0 {
+        let cases: Vec<Vec<Call>> = (0..BATCH.min(left)).map(|_| case(&mut random)).collect();
+        left -= cases.len();
+        if !check_batch(&program, &cases, &mut tally) {
+            left = 0;
         }
     }
     pace::MODES.iter().for_each(|mode| check_pace(mode, &mut tally));
