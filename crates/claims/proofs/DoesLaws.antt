@@ -3,21 +3,21 @@
 use Prim.Native.Nat.{ℕ, _<_}
 use mathlib.Core.Path.{_≡_, refl, ap, _∙_}
 use mathlib.Core.List.{List}
-use mathlib.Core.Bool.{Bool, true, false, not, cond}
+use mathlib.Core.Bool.{Bool, true, false, cond}
 use native.Mathlib.Omega.{arith}
 use lib.ListN.{length, take, length-take}
 use Rattle.parts.specs.Parts.{part, paddedText}
 use Rattle.lines.specs.declared.Body.{Body}
 use Rattle.lines.specs.declared.Taken.{Taken}
 use Rattle.lines.specs.Bodies.{bodyOf, lineOf}
-use Rattle.lines.proofs.TakenLaws.{held, stored}
+use Rattle.lines.proofs.TakenLaws.{stored}
+use Rattle.lines.proofs.TakenLaws as taken
 use Rattle.image.specs.Image.{slots}
 use Rattle.image.specs.Claims.{ImageClaims}
-use Rattle.flow.specs.Flow.{begun}
 use Rattle.turns.specs.declared.Core.{Core}
 use Rattle.turns.specs.Turns.{started}
 use Rattle.obeying.specs.declared.Obeyed.{Obeyed}
-use Rattle.obeying.specs.Obeying.{lineObeyed, lineImage, loadedAs, loadedFor, bodyObeyed, bodyImage}
+use Rattle.obeying.specs.Obeying.{held, lineObeyed, lineImage, loadedAs, loadedFor, bodyObeyed, bodyImage}
 use Rattle.obeying.specs.Obeying as obeying
 use Rattle.obeying.proofs.KindLaws.{line-short}
 use Rattle.runs.proofs.SoundLaws.{text-kept}
@@ -35,20 +35,19 @@ module _ (b : List ℕ) (c : Core) (text image : List ℕ) (is-line : bodyOf b �
   unfolding bodyImage
   image-as t e = rw (is-line, idle, e)
 
-  loaded : (n : ℕ) (run : Bool) (d : Core) → d ≡ loadedFor run n c → (d .flow ≡ begun n) × (d .running ≡ run) × (d .loaded ≡ not run)
+  loaded : (n : ℕ) (run : Bool) (t : List ℕ) → take n t ≡ take n b → Loads b n run c (held (loadedFor run n c) t)
   unfolding started loadedAs
-  loaded n true d e = rw e (refl, refl, refl)
-  loaded n false d e = rw e (refl, refl, refl)
+  loaded n true t e = record { text = e; begins = refl; runs = refl; loaded = refl; code = refl; motor-same = refl; settings-same = refl }
+  loaded n false t e = record { text = e; begins = refl; runs = refl; loaded = refl; code = refl; motor-same = refl; settings-same = refl }
 
   loads : (n : ℕ) (run : Bool) → lineOf b ≡ Taken.Line n run → Loads b n run c (bodyObeyed b c text)
   loads n run e =
       let o = obeyed-as (Taken.Line n run) e in
-      let from = held b n run e in
+      let from = taken.held b n run e in
       let short = line-short b is-line in
       let long : length (take n b) ≡ n = simp length-take (omega (arith, from .inside)) in
       let kept : take n (paddedText (take n b)) ≡ take n b = rw long at (text-kept (take n b) (omega (arith, from .inside))) in
-      let l = loaded n run (loadedFor run n c) refl in
-      record { text = rw o kept; begins = rw o (l .0); runs = rw o (l .1); loaded = rw o (l .2) }
+      rw o (loaded n run (paddedText (take n b)) kept)
 
   stores : ImageClaims → (slot at n : ℕ) → lineOf b ≡ Taken.Store slot at n → Stores b slot at n c text image
   stores images slot at n e =

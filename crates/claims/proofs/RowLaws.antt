@@ -10,6 +10,7 @@ use lib.Dec.{ltb}
 use borrow.Author.Tests.{lt-ltb, le-ltb}
 use Rattle.parts.specs.Parts.{putIn}
 use Rattle.parts.proofs.Laws.{put-front, put-in-room}
+use Rattle.image.specs.Calls.{checkedOf}
 use Rattle.image.specs.Image.{rightLength, slots, slotsGood}
 use Rattle.frames.specs.declared.Frame.{Frame}
 use Rattle.answers.specs.Packet.{packet, packetBytes}
@@ -22,7 +23,7 @@ use Rattle.turns.specs.Turns.{turnCore}
 use Rattle.frames.specs.Addresses.{isUnit}
 use Rattle.drive.specs.Names.{startName, feedName, turnName}
 use Rattle.drive.specs.Calls.{noUnit, freshUnit, startAnswer, startOf, fed, afterFrame, obeyedBy, turnRefused, turnTaken, receivedBy, answerTo, feedOf, feedImage, feedBuffer, mostSample, turnOf}
-use Rattle.claims.specs.Demand1.{StartRow, FeedUnchanged, FrameRefused, frameCode, refusalPacket, FeedRow, TurnRow}
+use Rattle.claims.specs.Demand1.{StartRow, ImageRow, FeedUnchanged, FrameRefused, frameCode, refusalPacket, FeedRow, TurnRow}
 use Rattle.claims.proofs.OrderLaws.{order-row}
 
 pub start-row : (number : ℕ) (image : List ℕ) → StartRow number image
@@ -42,6 +43,10 @@ start-row number image = record {
     go true true false = refl
     go true false d = refl
     go false b d = refl
+
+pub image-row : (image : List ℕ) → ImageRow image
+unfolding checkedOf
+image-row image = record { wrong-length = λ l. rw l; bad = λ l g. rw (l, g); good = λ l g. rw (l, g) }
 
 pub turn-row : (u : Drive) (sample ms steps : ℕ) (image : List ℕ) → TurnRow u sample ms steps image
 unfolding turnOf

@@ -9,6 +9,8 @@ use lib.ListN.{length, drop}
 use lib.Dec.{ltb}
 use Rattle.commands.specs.Table as table
 use Rattle.lines.specs.Bodies.{lineCode}
+use Rattle.image.specs.declared.Checked.{Checked}
+use Rattle.image.specs.Calls.{checkedOf}
 use Rattle.image.specs.Image.{rightLength, slots, slotsGood}
 use Rattle.frames.specs.declared.Frame.{Frame}
 use Rattle.frames.specs.declared.Receiver.{Receiver}
@@ -123,6 +125,12 @@ pub record PacketRow (s : List ℕ) : Type 0 where
   pub which : readOf s .found ≡ foundOf (isPacket s)
   pub zeros : readOf s .found ≡ NotOnePacket → readOf s ≡ refused
 
+-- "The image is good when every ..": good, wrong length or bad, and each only then
+pub record ImageRow (image : List ℕ) : Type 0 where
+  pub wrong-length : rightLength image ≡ false → checkedOf image ≡ Checked.WrongLength
+  pub bad : rightLength image ≡ true → slotsGood image slots ≡ false → checkedOf image ≡ Checked.Bad
+  pub good : rightLength image ≡ true → slotsGood image slots ≡ true → checkedOf image ≡ Checked.Good
+
 pub record Demand1 : Type 0 where
   pub start : (number : ℕ) (image : List ℕ) → StartRow number image
   pub feed : (u : Drive) (bytes image buffer : List ℕ) → FeedRow u bytes image buffer
@@ -132,5 +140,6 @@ pub record Demand1 : Type 0 where
   pub packet : (s : List ℕ) → PacketRow s
   -- "ramp: V, then L, then N outside the ranges of this paper | named refusal, all figures 0": each verdict exactly when
   pub ramp : (v l : ℕ) (endless : Bool) (n : ℕ) → ramps.Outcome v l endless n (figuresOf v l endless n)
+  pub check-image : (image : List ℕ) → ImageRow image
   -- the line check has a code for every body
   pub check-line : (b : List ℕ) → table.oneOf (0 ∷ 2 ∷ 3 ∷ []) (lineCode b) ≡ true

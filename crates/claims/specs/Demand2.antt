@@ -4,7 +4,7 @@
 use Prim.Native.Nat.{ℕ}
 use mathlib.Core.Path.{_≡_}
 use mathlib.Core.List.{List}
-use mathlib.Core.Bool.{Bool, true, false, not}
+use mathlib.Core.Bool.{Bool, true, false, not, cond}
 use lib.ListN.{take}
 use Rattle.parts.specs.Parts.{part}
 use Rattle.digits.specs.ReadBack.{DigitClaims}
@@ -35,6 +35,10 @@ pub record Loads (b : List ℕ) (n : ℕ) (run : Bool) (c : Core) (o : Obeyed) :
   pub begins : o .core .flow ≡ begun n
   pub runs : o .core .running ≡ run
   pub loaded : o .core .loaded ≡ not run
+  -- the held code is "set to 0 when a run starts"; nothing else of the record changes
+  pub code : o .core .code ≡ cond run 0 (c .code)
+  pub motor-same : o .core .motor ≡ c .motor
+  pub settings-same : o .core .settings ≡ c .settings
 
 -- "the text between slot and `R` is stored .. such a line starts no run and leaves the current text"
 pub record Stores (b : List ℕ) (slot at n : ℕ) (c : Core) (text image : List ℕ) : Type 0 where

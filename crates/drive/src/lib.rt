@@ -84,6 +84,11 @@ pub struct TurnedUnit {
 // The longest packet.
 const PACKET_BYTES: usize = 262;
 
+// The longest body, and the code of a longer one; the longest text.
+const MOST_BYTES: usize = 256;
+
+const TOO_LONG: u8 = 2;
+
 // The unit of a number, idle or running program 0 of the image.
 pub fn start(number: u8, image: &[u8]) -> StartedUnit
     ensures { λ r. ⌜ r ≡ startOf number (now (image .entry)) ⌝ }
@@ -232,8 +237,8 @@ fn obey_frame(u: Drive, got: Received, image: &mut [u8]) -> Obeyed
     let r = got.receiver;
     let core = u.core;
     let text = u.text;
-    if 256 < r.length {
-        return obeying::refuse(core, text, 2);
+    if MOST_BYTES < r.length {
+        return obeying::refuse(core, text, TOO_LONG);
     }
     let body = r.body;
     obey_body(body, r.length, core, text, image)
@@ -288,8 +293,8 @@ fn write_text(buffer: &mut [u8], status: u8, text: [u8; 256], count: usize) -> u
     requires { ⌜ packetBytes ≤ length (now buffer) ⌝ }
     ensures { λ n. ⌜ PacketOf status (take count text) (now (buffer .entry)) n (now (buffer .exit)) ⌝ }
 {
-    if 256 < count {
-        return write_bytes(buffer, status, &text[0..256]);
+    if MOST_BYTES < count {
+        return write_bytes(buffer, status, &text[0..MOST_BYTES]);
     }
     write_bytes(buffer, status, &text[0..count])
 }

@@ -101,6 +101,7 @@ fn terminate(c: Core) -> Core
     c
 }
 
+// A byte as a number that can be told.
 fn wide(x: u8) -> u32
     ensures { λ r. ⌜ r ≡ x ⌝ }
 {

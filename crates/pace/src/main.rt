@@ -102,6 +102,7 @@ fn task_of(input: &[u8]) -> Task {
     }
 }
 
+// Nothing is asked for.
 fn no_task() -> Task {
     Task {
         turns: false,
@@ -182,10 +183,12 @@ fn add_answer(sum: u32, answered: usize, buffer: &[u8]) -> u32 {
     std::num::wrapping_add_u32(longer, wide(buffer[STATUS_AT]))
 }
 
+// The digest with a count.
 fn add(sum: u32, n: usize) -> u32 {
     std::num::wrapping_add_u32(sum, (n % 4294967296) as u32)
 }
 
+// A byte as a number.
 fn wide(x: u8) -> u32 {
     x as u32
 }
@@ -241,6 +244,7 @@ fn add_position(t: Turning) -> u32 {
     std::num::wrapping_add_u32(t.sum, motor.position)
 }
 
+// The lesser of two.
 fn least(a: u32, b: u32) -> u32 {
     if a < b { a } else { b }
 }

@@ -1,8 +1,8 @@
 -- Newton's step for a root never goes below what fits (`newton`): a product is at most the square of the mean (`mean-square`).
 -- Assumes nothing.
 use mathlib.Core.Path.{_≡_, subst}
-use Prim.Native.Nat.{ℕ, _+_, _-_, _*_, _/_, _≤_, _<_, zero-le}
-use native.Mathlib.Nat.{le-trans, le-refl, mul-comm, mul-add, add-mul, mul-le-mul-left, lt-mul-div-succ, div-lt-iff-lt-mul, le-of-lt}
+use Prim.Native.Nat.{ℕ, _+_, _-_, _*_, _/_, min, _≤_, _<_, zero-le}
+use native.Mathlib.Nat.{le-trans, min-le-left, le-min, mul-comm, mul-add, add-mul, mul-le-mul-left, lt-mul-div-succ, div-lt-iff-lt-mul, le-of-lt}
 use native.Mathlib.Omega.{arith}
 use mathlib.Core.Bool.{Bool, true, false, not}
 use lib.Dec.{T, leb, leb→le, nleb→lt}
@@ -42,8 +42,9 @@ pub record Above (v room p : ℕ) : Type 0 where
   pub under : p ≤ v
   pub most : (q : ℕ) → q ≤ v → 2 * (q * q) ≤ room → q ≤ p
 
-pub begun : {v room : ℕ} → Above v room v
-begun {v} = record { under = le-refl v; most = λ q i f. i }
+-- it begins at a step from any guess above 0, or at v where v is less
+pub begun : {v room : ℕ} (g : ℕ) → 0 < g → Above v room (min v ((g + room / 2 / g) / 2))
+begun {v} {room} g pos = record { under = min-le-left v _; most = λ q i f. le-min i (newton g (room / 2) q pos (omega arith)) }
 
 -- where p does not fit, it is above 0, and the step is below it
 module _ {room p : ℕ} (h : room < 2 * (p * p)) where

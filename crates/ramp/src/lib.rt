@@ -1,5 +1,5 @@
 ghost use mathlib.Core.Path.{_≡_};
-ghost use Prim.Native.Nat.{_*_, _≤_};
+ghost use Prim.Native.Nat.{_+_, _*_, _/_, _^_, min, _≤_, _<_};
 ghost use Rattle.ramp.specs.Ranges.{topV, topL, topN, outside, Within};
 ghost use Rattle.ramp.specs.Peak.{doubleUnit, greatest};
 ghost use Rattle.ramp.specs.Ramp.{codeOf, refusedOf, takenOf, figuresOf};
@@ -128,17 +128,45 @@ fn finite_peak(v: u32, l: u32, n: u32) -> u32
     greatest_under(v as u64, room) as u32
 }
 
-// The greatest whole p up to v with 2 p² ≤ room: from v down, by Newton's step for a root.
+// The greatest whole p up to v with 2 p² ≤ room: v itself in a long move, else down to it by Newton's steps for a root.
 fn greatest_under(v: u64, room: u64) -> u64
     requires { ⌜ v ≤ topV ⌝ }
     ensures { λ r. ⌜ r ≡ greatest v room ⌝ }
 {
+    if 2 * (v * v) <= room {
+        return v;
+    }
     let square = room / 2;
-    let mut peak: u64 = v;
+    let mut peak = least(v, step(guess(square), square));
     while room < 2 * (peak * peak) {
-        peak = (peak + square / peak) / 2;
+        peak = step(peak, square);
     }
     peak
+}
+
+// Newton's step for the root of square: from any x above 0 it does not go below the root.
+fn step(x: u64, square: u64) -> u64
+    requires { ⌜ (0 < x) × (x ≤ 2 ^ 32) × (square < 2 ^ 63) ⌝ }
+    ensures { λ r. ⌜ r ≡ (x + square / x) / 2 ⌝ }
+{
+    (x + square / x) / 2
+}
+
+// A power of two near the root of square: any number above 0 would do, and a near one saves divisions.
+fn guess(square: u64) -> u64
+    ensures { λ r. ⌜ (0 < r) × (r ≤ 2 ^ 32) ⌝ }
+{
+    1u64 << ((64 - u64::leading_zeros(square)) / 2)
+}
+
+// The smaller of two numbers.
+fn least(a: u64, b: u64) -> u64
+    ensures { λ r. ⌜ r ≡ min a b ⌝ }
+{
+    if a < b {
+        return a;
+    }
+    b
 }
 
 // What readers are to believe of the figures, whatever V, L and N are.
