@@ -24,10 +24,12 @@ use Rattle.commands.specs.declared.Asks.{Asks}
 use Rattle.commands.specs.declared.Asks.the-variants.{Unknown, Nothing, Required, OrElse}
 use Rattle.commands.specs.declared.Range.{Range}
 use Rattle.commands.specs.declared.Fault.{Fault}
+use Rattle.commands.specs.declared.Fitted.{Fitted}
 use Rattle.commands.specs.declared.Read.{Read}
 use Rattle.commands.specs.declared.Read.the-variants.{At, Bad, End}
 use Rattle.commands.specs.Table.{asksOf, commandOf, within}
 use Rattle.commands.specs.Reading.{badOperand, required, orElse, begins, letterAt, readAt}
+use Rattle.commands.specs.Fitting.{finished}
 
 -- the tag is one of two others
 pub not-tag : (a b k : ℕ) → (k ≡ a → ⊥) → (k ≡ b → ⊥) → OneOf (a ∷ b ∷ []) k → ⊥
@@ -52,6 +54,12 @@ begins-at s at = go (operandAt s at) refl
     go Missing e = tt
     go (Number n next) e = let h = number-past s at n next e in omega arith
     go (Above next) e = tt
+
+-- what a letter's operand gives, finished with the letter, is what stands there
+pub read-fitted : (s : List ℕ) (at : ℕ) {k : Asks} {f g : Fitted} → at < length s → k ≡ asksOf (getD s at 0)
+    → ((l : ℕ) → finished l f ≡ letterAt k l s (at + 1)) → f ≡ g → finished (getD s at 0) g ≡ readAt s at
+unfolding readAt
+read-fitted s at h k e q = rw (lt-ltb at (length s) h, ← k, ← q) (e (getD s at 0))
 
 -- a command is a byte long at least, and ends within s
 pub read-step : (s : List ℕ) (at : ℕ) {c : Command} {n : ℕ} → readAt s at ≡ At c n → (at < n) × (n ≤ length s)

@@ -1,9 +1,10 @@
 // The commands of a line: one read at a place, one written.
 ghost use mathlib.Core.Path.{_≡_};
-ghost use Prim.Native.Nat.{_≤_};
+ghost use Prim.Native.Nat.{ℕ, _≤_};
 ghost use Rattle.digits.specs.Decimal.{WrittenIs};
 ghost use Rattle.commands.specs.Table.{asksOf, commandOf, exponentOf, within};
 ghost use Rattle.commands.specs.Reading.{required, orElse, begins, letterAt, readAt};
+ghost use Rattle.commands.specs.Fitting.{finished};
 ghost use Rattle.commands.specs.Writing.{actSpelling, spellingOf, bytesOf, spelled};
 ghost use Rattle.commands.specs.Claims.{CommandClaims};
 use digits::Operand;
@@ -88,6 +89,14 @@ pub enum Spelling {
     WithTwoDigits(u8, u32),
 }
 
+// What a letter's operand gives, so that the command is made in one place.
+enum Fitted {
+    // The number, and the place past it.
+    Fits(u32, usize),
+    // The code of a fault.
+    Fails(u8),
+}
+
 // The end of the range of positions.
 const TOP: u32 = 2147483647;
 
@@ -102,7 +111,11 @@ pub fn read_command(s: &[u8], at: usize) -> Read
         return Read::End;
     }
     let letter = s[at];
-    letter_at(asks_of(letter), letter, s, at + 1)
+    let fitted = fit_at(asks_of(letter), s, at + 1);
+    match fitted {
+        Fitted::Fits(n, next) => Read::At(command_of(letter, n), next),
+        Fitted::Fails(code) => Read::Bad(Fault { code: code }),
+    }
 }
 
 // Writes a command as the host does, from a place of the buffer.
@@ -259,43 +272,41 @@ fn is_within(range: Range, n: u32, digits: usize) -> bool
     }
 }
 
-// The command of a letter and the operand that must stand at `at`.
-fn with_operand(letter: u8, range: Range, operand: Operand, at: usize) -> Read
+// The number of an operand that must stand at `at`.
+fn fit_required(range: Range, operand: Operand, at: usize) -> Fitted
     requires { ⌜ begins at operand ⌝ }
-    ensures { λ r. ⌜ r ≡ required letter range operand at ⌝ }
+    ensures { λ r. ⌜ ((l : ℕ) → finished l r ≡ required l range operand at) ⌝ }
 {
     let Operand::Number(n, next) = operand else {
-        return Read::Bad(Fault { code: 3 });
+        return Fitted::Fails(3);
     };
     if is_within(range, n, next - at) {
-        Read::At(command_of(letter, n), next)
+        Fitted::Fits(n, next)
     } else {
-        Read::Bad(Fault { code: 3 })
+        Fitted::Fails(3)
     }
 }
 
 // The same, where no operand means the number m.
-fn with_operand_or(letter: u8, range: Range, m: u32, operand: Operand, at: usize) -> Read
+fn fit_or(range: Range, m: u32, operand: Operand, at: usize) -> Fitted
     requires { ⌜ begins at operand ⌝ }
-    ensures { λ r. ⌜ r ≡ orElse letter range m operand at ⌝ }
+    ensures { λ r. ⌜ ((l : ℕ) → finished l r ≡ orElse l range m operand at) ⌝ }
 {
     let Operand::Missing = operand else {
-        return with_operand(letter, range, operand, at);
+        return fit_required(range, operand, at);
     };
-    Read::At(command_of(letter, m), at)
+    Fitted::Fits(m, at)
 }
 
-// What a letter that asks so gives, with its operand from a place of s.
-fn letter_at(asks: Asks, letter: u8, s: &[u8], at: usize) -> Read
-    ensures { λ r. ⌜ r ≡ letterAt asks letter (now (s .entry)) at ⌝ }
+// The number of a letter that asks so, with its operand from a place of s.
+fn fit_at(asks: Asks, s: &[u8], at: usize) -> Fitted
+    ensures { λ r. ⌜ ((l : ℕ) → finished l r ≡ letterAt asks l (now (s .entry)) at) ⌝ }
 {
     match asks {
-        Asks::Unknown => Read::Bad(Fault { code: 2 }),
-        Asks::Nothing => Read::At(command_of(letter, 0), at),
-        Asks::Required(range) => with_operand(letter, range, digits::read_operand(s, at), at),
-        Asks::OrElse(range, m) => {
-            with_operand_or(letter, range, m, digits::read_operand(s, at), at)
-        }
+        Asks::Unknown => Fitted::Fails(2),
+        Asks::Nothing => Fitted::Fits(0, at),
+        Asks::Required(range) => fit_required(range, digits::read_operand(s, at), at),
+        Asks::OrElse(range, m) => fit_or(range, m, digits::read_operand(s, at), at),
     }
 }
 

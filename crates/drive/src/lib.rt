@@ -3,25 +3,20 @@ ghost use mathlib.Core.Path.{_≡_};
 ghost use mathlib.Core.Bool.{not};
 ghost use Prim.Native.Nat.{_≤_};
 ghost use lib.ListN.{length, take};
-ghost use Rattle.parts.specs.Parts.{paddedText};
 ghost use Rattle.digits.specs.Decimal.{decimal};
-ghost use Rattle.image.specs.Image.{slotText};
 ghost use Rattle.frames.specs.Addresses.{isUnit};
+ghost use Rattle.frames.specs.declared.Frame.{Frame};
 ghost use Rattle.answers.specs.Packet.{mostData, mostDigits, packetBytes, statusOf};
 ghost use Rattle.turns.specs.Turns.{textAfter};
 ghost use Rattle.lines.specs.Texts.{mostBytes};
 ghost use Rattle.obeying.specs.Obeying.{dataOf, ObeyedIs};
-ghost use Rattle.drive.specs.declared.FeedAnswer.{FeedAnswer};
 ghost use Rattle.drive.specs.Framed.{FramedIs};
-ghost use Rattle.drive.specs.Calls.{drive, begunWith, freshUnit, noUnit, startAnswer, startOf, fed, PacketOf, FedIs};
-ghost use Rattle.drive.specs.Calls.{turnRefused, turnTaken, turnOf};
+ghost use Rattle.drive.specs.Calls.{begunWith, freshUnit, noUnit, startAnswer, startOf, PacketOf, FedIs, turnOf};
+ghost use Rattle.drive.specs.Steps.{answerOf, heardOf, CompletedIs, AnsweredIs, coreRefused, coreTaken, coreTurned};
 use digits::Written;
 use frames::Frame;
-use frames::Received;
 use frames::Receiver;
 use image::Checked;
-use motor::Last;
-use motor::Motor;
 use obeying::Obeyed;
 use obeying::Tell;
 use turns::Action;
@@ -33,10 +28,10 @@ use turns::Stepped;
 
 // A unit's record.
 pub struct Drive {
-    pub number: u8,
     pub receiver: Receiver,
-    pub text: [u8; 256],
     pub core: Core,
+    pub text: [u8; 256],
+    pub number: u8,
 }
 
 // How a start is answered.
@@ -48,8 +43,8 @@ pub enum StartAnswer {
 }
 
 pub struct StartedUnit {
-    pub answer: StartAnswer,
     pub unit: Drive,
+    pub answer: StartAnswer,
 }
 
 // How a feed call is answered.
@@ -60,11 +55,11 @@ pub enum FeedAnswer {
 }
 
 pub struct Fed {
-    pub answer: FeedAnswer,
     pub unit: Drive,
     pub consumed: usize,
     // Bytes of the answer at the front of the buffer; 0 where there is none.
     pub answered: usize,
+    pub answer: FeedAnswer,
 }
 
 // How a turn is answered.
@@ -76,9 +71,17 @@ pub enum TurnAnswer {
 }
 
 pub struct TurnedUnit {
-    pub answer: TurnAnswer,
     pub unit: Drive,
     pub action: Action,
+    pub answer: TurnAnswer,
+}
+
+// A turn without the number, the receiver and the text.
+struct TurnedCore {
+    core: Core,
+    enter: Enter,
+    action: Action,
+    answer: TurnAnswer,
 }
 
 // The longest packet.
@@ -139,10 +142,10 @@ fn fresh_unit(number: u8, image: &[u8]) -> Drive
     let t = image::slot_text(image, 0);
     let n = t.len();
     Drive {
-        number: number,
         receiver: frames::fresh(),
-        text: slot_bytes(image, 0),
         core: begin_with(n),
+        text: parts::padded_text(t),
+        number: number,
     }
 }
 
@@ -158,90 +161,90 @@ fn begin_with(n: usize) -> Core
 }
 
 // The bytes of a feed call, up to the end of the first frame for this unit: it is obeyed and, if for it alone, answered.
+// The record is built once, whatever comes: building it in several places costs copies of it.
 pub fn feed(u: Drive, bytes: &[u8], image: &mut [u8], buffer: &mut [u8]) -> Fed
     ensures { λ r. ⌜ FedIs u (now (bytes .entry)) (now (image .entry)) (now (buffer .entry)) r (now (image .exit)) (now (buffer .exit)) ⌝ }
 {
-    if buffer.len() < PACKET_BYTES {
-        return refuse_feed(FeedAnswer::BufferShort, u);
-    }
-    if !image::is_right_length(image) {
-        return refuse_feed(FeedAnswer::ImageLength, u);
-    }
-    let receiver = u.receiver;
-    let got = frames::receive(receiver, u.number, bytes);
+    let answer = feed_answer(image, buffer);
+    let n = heard(answer, bytes.len());
+    let before = u.receiver;
+    let got = frames::receive(before, u.number, &bytes[0..n]);
     let frame = got.frame;
-    match frame {
-        Frame::Nothing => after_bytes(u, got),
-        Frame::Alone => {
-            let o = obey_frame(u, got, image);
-            let n = answer_frame(o, buffer);
-            after_frame(u, got, o, n)
-        }
-        Frame::Group => {
-            let o = obey_frame(u, got, image);
-            after_frame(u, got, o, 0)
-        }
-    }
-}
-
-// Nothing is consumed, and nothing changes.
-fn refuse_feed(answer: FeedAnswer, u: Drive) -> Fed
-    ensures { λ r. ⌜ r ≡ fed answer u 0 0 ⌝ }
-{
-    Fed {
-        answer: answer,
-        unit: u,
-        consumed: 0,
-        answered: 0,
-    }
-}
-
-// No frame for this unit was completed.
-fn after_bytes(u: Drive, got: Received) -> Fed
-    ensures { λ r. ⌜ r ≡ fed FeedAnswer.Taken (drive (u .number) (got .receiver) (u .text) (u .core)) (got .consumed) 0 ⌝ }
-{
     let receiver = got.receiver;
-    let mut v = u;
-    v.receiver = receiver;
+    let core = u.core;
+    let text = u.text;
+    let o = obey_completed(frame, receiver, core, text, image);
+    let answered = answer_completed(frame, o, buffer);
+    let core_after = o.core;
+    let text_after = o.text;
     Fed {
-        answer: FeedAnswer::Taken,
-        unit: v,
-        consumed: got.consumed,
-        answered: 0,
-    }
-}
-
-// A frame was completed and obeyed.
-fn after_frame(u: Drive, got: Received, o: Obeyed, answered: usize) -> Fed
-    ensures { λ r. ⌜ r ≡ fed FeedAnswer.Taken (drive (u .number) (got .receiver) (o .text) (o .core)) (got .consumed) answered ⌝ }
-{
-    let receiver = got.receiver;
-    let text = o.text;
-    let core = o.core;
-    let mut v = u;
-    v.receiver = receiver;
-    v.text = text;
-    v.core = core;
-    Fed {
-        answer: FeedAnswer::Taken,
-        unit: v,
+        unit: Drive {
+            receiver: receiver,
+            core: core_after,
+            text: text_after,
+            number: u.number,
+        },
         consumed: got.consumed,
         answered: answered,
+        answer: answer,
+    }
+}
+
+// How a feed call is answered.
+fn feed_answer(image: &[u8], buffer: &[u8]) -> FeedAnswer
+    ensures { λ r. ⌜ r ≡ answerOf (now (image .entry)) (now (buffer .entry)) ⌝ }
+{
+    if buffer.len() < PACKET_BYTES {
+        return FeedAnswer::BufferShort;
+    }
+    if !image::is_right_length(image) {
+        return FeedAnswer::ImageLength;
+    }
+    FeedAnswer::Taken
+}
+
+// Of n bytes a refused call hears none.
+fn heard(answer: FeedAnswer, n: usize) -> usize
+    ensures { λ r. ⌜ r ≡ heardOf answer n ⌝ }
+{
+    match answer {
+        FeedAnswer::Taken => n,
+        FeedAnswer::BufferShort => 0,
+        FeedAnswer::ImageLength => 0,
+    }
+}
+
+// A completed frame obeyed; where none was completed nothing changes.
+fn obey_completed(frame: Frame, r: Receiver, c: Core, text: [u8; 256], image: &mut [u8]) -> Obeyed
+    ensures { λ o. ⌜ CompletedIs frame r c text (now (image .entry)) o (now (image .exit)) ⌝ }
+{
+    let Frame::Nothing = frame else {
+        return obey_frame(r, c, text, image);
+    };
+    obeying::refuse(c, text, 0)
+}
+
+// A frame for this unit alone answered: the length of its packet, at the front of the buffer.
+fn answer_completed(frame: Frame, o: Obeyed, buffer: &mut [u8]) -> usize
+    requires { ⌜ (frame ≡ Frame.Alone → packetBytes ≤ length (now buffer)) ⌝ }
+    ensures { λ n. ⌜ AnsweredIs frame o (now (buffer .entry)) n (now (buffer .exit)) ⌝ }
+{
+    match frame {
+        Frame::Nothing => 0,
+        Frame::Alone => answer_frame(o, buffer),
+        Frame::Group => 0,
     }
 }
 
 // The frame that a unit has received, obeyed; of a body over 256 bytes not all are kept.
-fn obey_frame(u: Drive, got: Received, image: &mut [u8]) -> Obeyed
-    ensures { λ o. ⌜ FramedIs (got .receiver) (u .core) (u .text) (now (image .entry)) o (now (image .exit)) ⌝ }
+fn obey_frame(r: Receiver, c: Core, text: [u8; 256], image: &mut [u8]) -> Obeyed
+    ensures { λ o. ⌜ FramedIs r c text (now (image .entry)) o (now (image .exit)) ⌝ }
 {
-    let r = got.receiver;
-    let core = u.core;
-    let text = u.text;
     if MOST_BYTES < r.length {
-        return obeying::refuse(core, text, TOO_LONG);
+        return obeying::refuse(c, text, TOO_LONG);
     }
     let body = r.body;
-    obey_body(body, r.length, core, text, image)
+    obey_body(body, r.length, c, text, image)
 }
 
 // The first bytes of an array as a body.
@@ -310,77 +313,87 @@ fn write_bytes(buffer: &mut [u8], status: u8, bytes: &[u8]) -> usize
     n
 }
 
-// One turn: the report counted, then a wait served or a command taken.
+// One turn: the report counted, then a wait served or a command taken. The record is built once, as in `feed`.
 pub fn turn(u: Drive, sample: u8, ms: u32, steps: u32, image: &[u8]) -> TurnedUnit
     ensures { λ r. ⌜ r ≡ turnOf u sample ms steps (now (image .entry)) ⌝ }
 {
+    let c = u.core;
+    let mut text = u.text;
+    let t = turn_core(c, sample, ms, steps, &text, image);
+    let enter = t.enter;
+    enter_text(&mut text, enter, image);
+    let receiver = u.receiver;
+    let core = t.core;
+    let action = t.action;
+    let answer = t.answer;
+    TurnedUnit {
+        unit: Drive {
+            receiver: receiver,
+            core: core,
+            text: text,
+            number: u.number,
+        },
+        action: action,
+        answer: answer,
+    }
+}
+
+// A turn of the core, or why it is refused.
+fn turn_core(c: Core, sample: u8, ms: u32, steps: u32, text: &[u8], image: &[u8]) -> TurnedCore
+    ensures { λ r. ⌜ r ≡ coreTurned c sample ms steps (now (text .entry)) (now (image .entry)) ⌝ }
+{
     if !image::is_right_length(image) {
-        return refuse_turn(TurnAnswer::ImageLength, u);
+        return refuse_turn(TurnAnswer::ImageLength, c);
     }
     if 15 < sample {
-        return refuse_turn(TurnAnswer::Sample, u);
+        return refuse_turn(TurnAnswer::Sample, c);
     }
-    let core = u.core;
-    let m = core.motor;
+    let m = c.motor;
     let l = m.last;
     if l.number < steps {
-        return refuse_turn(TurnAnswer::Steps, u);
+        return refuse_turn(TurnAnswer::Steps, c);
     }
-    let text = u.text;
-    take_turn(
-        u,
-        turns::turn_core(core, sample, ms, steps, &text, image),
-        image,
-    )
+    take_turn(turns::turn_core(c, sample, ms, steps, text, image))
 }
 
 // Nothing changes, and no action is answered.
-fn refuse_turn(answer: TurnAnswer, u: Drive) -> TurnedUnit
-    ensures { λ r. ⌜ r ≡ turnRefused answer u ⌝ }
+fn refuse_turn(answer: TurnAnswer, c: Core) -> TurnedCore
+    ensures { λ r. ⌜ r ≡ coreRefused answer c ⌝ }
 {
-    TurnedUnit {
-        answer: answer,
-        unit: u,
+    TurnedCore {
+        core: c,
+        enter: Enter::Stay,
         action: Action {
             direction: Direction::Still,
             number: 0,
         },
+        answer: answer,
     }
 }
 
-// The unit after a turn, and the action that is answered.
-fn take_turn(u: Drive, s: Stepped, image: &[u8]) -> TurnedUnit
-    ensures { λ r. ⌜ r ≡ turnTaken s (now (image .entry)) u ⌝ }
+// The core after a turn, and the action that is answered.
+fn take_turn(s: Stepped) -> TurnedCore
+    ensures { λ r. ⌜ r ≡ coreTaken s ⌝ }
 {
     let core = s.core;
     let enter = s.enter;
     let settings = core.settings;
     let m = core.motor;
     let l = m.last;
-    TurnedUnit {
-        answer: TurnAnswer::Taken,
-        unit: after_turn(u, core, enter, image),
+    TurnedCore {
+        core: core,
+        enter: enter,
         action: turns::answer_action(settings.turned, l),
+        answer: TurnAnswer::Taken,
     }
 }
 
-// The unit with another core; where a slot was entered, with its text.
-fn after_turn(u: Drive, core: Core, enter: Enter, image: &[u8]) -> Drive
-    ensures { λ v. ⌜ v ≡ drive (u .number) (u .receiver) (textAfter enter (u .text) (now (image .entry))) core ⌝ }
+// Where a slot was entered, its text becomes the current one.
+fn enter_text(text: &mut [u8; 256], enter: Enter, image: &[u8])
+    ensures { λ _. ⌜ now (text .exit) ≡ textAfter enter (now (text .entry)) (now (image .entry)) ⌝ }
 {
-    let mut v = u;
-    v.core = core;
     let Enter::Into(slot) = enter else {
-        return v;
+        return;
     };
-    let text = slot_bytes(image, slot);
-    v.text = text;
-    v
-}
-
-// The text of a slot with zeros behind it.
-fn slot_bytes(image: &[u8], slot: u32) -> [u8; 256]
-    ensures { λ r. ⌜ r ≡ paddedText (slotText (now (image .entry)) slot) ⌝ }
-{
-    parts::padded_text(image::slot_text(image, slot))
+    parts::put_text(text, image::slot_text(image, slot));
 }

@@ -1,1 +1,2 @@
 pub mod FlowLaws
+pub mod FourLaws

@@ -1,6 +1,7 @@
 // The place in the current text and the open loops.
 ghost use mathlib.Core.Path.{_≡_};
 ghost use Prim.Native.Nat.{_<_};
+ghost use lib.ListN.{getD, set};
 ghost use Rattle.flow.specs.Flow.{begun, gone, closed, loopBegun, loopEnded};
 
 // "At most four open".
@@ -49,13 +50,14 @@ pub fn begin_loop(f: Flow, next: usize) -> Flowed
 {
     let depth = f.depth;
     if depth < MOST_OPEN {
-        let mut g = f;
-        g.starts[depth] = next;
-        g.dones[depth] = 0;
-        g.at = next;
-        g.depth = depth + 1;
         return Flowed {
-            flow: g,
+            flow: Flow {
+                length: f.length,
+                at: next,
+                starts: put_start(f, depth, next),
+                dones: put_done(f, depth, 0),
+                depth: depth + 1,
+            },
             astray: false,
         };
     }
@@ -94,18 +96,68 @@ fn close(f: Flow, d: usize, n: u32, next: usize) -> Flow
     ensures { λ r. ⌜ r ≡ closed d n next f ⌝ }
 {
     let mut g = f;
-    let start = f.starts[d];
-    let done = f.dones[d];
     if n == 0 {
-        g.at = start;
+        g.at = start_of(f, d);
         return g;
     }
+    let done = done_of(f, d);
     if done < n - 1 {
-        g.dones[d] = done + 1;
-        g.at = start;
+        let dones = put_done(f, d, done + 1);
+        g.dones = dones;
+        g.at = start_of(f, d);
         return g;
     }
     g.at = next;
     g.depth = d;
     g
+}
+
+// The start of the loop at a depth: each place is read by its own number, so that the record stays in registers.
+fn start_of(f: Flow, d: usize) -> usize
+    requires { ⌜ d < 4 ⌝ }
+    ensures { λ r. ⌜ r ≡ getD (f .starts) d 0 ⌝ }
+{
+    match d {
+        0 => f.starts[0],
+        1 => f.starts[1],
+        2 => f.starts[2],
+        _ => f.starts[3],
+    }
+}
+
+// How often the body of the loop at a depth has run, read in the same way.
+fn done_of(f: Flow, d: usize) -> u32
+    requires { ⌜ d < 4 ⌝ }
+    ensures { λ r. ⌜ r ≡ getD (f .dones) d 0 ⌝ }
+{
+    match d {
+        0 => f.dones[0],
+        1 => f.dones[1],
+        2 => f.dones[2],
+        _ => f.dones[3],
+    }
+}
+
+// The starts with x at a depth: each place is written by its own number, so that the record stays in registers.
+fn put_start(f: Flow, d: usize, x: usize) -> [usize; MOST_OPEN]
+    ensures { λ r. ⌜ r ≡ set (f .starts) d x ⌝ }
+{
+    [
+        if d == 0 { x } else { f.starts[0] },
+        if d == 1 { x } else { f.starts[1] },
+        if d == 2 { x } else { f.starts[2] },
+        if d == 3 { x } else { f.starts[3] },
+    ]
+}
+
+// How often the bodies have run with x at a depth, written in the same way.
+fn put_done(f: Flow, d: usize, x: u32) -> [u32; MOST_OPEN]
+    ensures { λ r. ⌜ r ≡ set (f .dones) d x ⌝ }
+{
+    [
+        if d == 0 { x } else { f.dones[0] },
+        if d == 1 { x } else { f.dones[1] },
+        if d == 2 { x } else { f.dones[2] },
+        if d == 3 { x } else { f.dones[3] },
+    ]
 }

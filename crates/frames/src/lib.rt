@@ -28,9 +28,9 @@ pub enum Frame {
 // `length` counts the bytes of the body and stays one above the longest for an over-long one; what stands behind them is
 // left from earlier frames.
 pub struct Receiver {
-    pub place: Place,
     pub length: usize,
     pub body: [u8; LONGEST],
+    pub place: Place,
 }
 
 // What a feed call makes of the receiver, how many bytes it consumed, and what they completed.

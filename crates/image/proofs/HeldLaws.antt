@@ -1,8 +1,8 @@
 -- A slot that has the entry and the body of a text: it is as good as the text, and the text is read there. Assumes nothing.
 use Prim.Native.Nat.{ℕ, zero, suc, _-_, _≤_, _<_}
-use mathlib.Core.Path.{_≡_, refl, _∙_}
+use mathlib.Core.Path.{_≡_, refl, ap, _∙_}
 use mathlib.Core.List.{List, []}
-use mathlib.Core.Bool.{true, false, and-true}
+use mathlib.Core.Bool.{Bool, true, false, and-true}
 use native.Mathlib.Omega.{arith}
 use lib.Dec.{leb}
 use lib.ListN.{length, drop, replicate}
@@ -39,6 +39,14 @@ text-fits image k = good-fits (slotText image k) (text-passes image k)
 pub no-text : (image : List ℕ) (k : ℕ) → slotGood image k ≡ false → slotText image k ≡ []
 unfolding slotText
 no-text image k h = rw h
+
+-- a slot with a text is good
+pub text-there : (image : List ℕ) (k : ℕ) → 0 < length (slotText image k) → slotGood image k ≡ true
+text-there image k h = go (slotGood image k) refl
+  where
+    go : (b : Bool) → slotGood image k ≡ b → slotGood image k ≡ true
+    go true e = e
+    go false e = let none : length (slotText image k) ≡ 0 = ap length (no-text image k e) in absurd (omega arith)
 
 -- ---- entries
 

@@ -28,8 +28,8 @@ pub enum Wait {
 // The last action answered: its direction before F1, its greatest number, and whether its steps count in the position.
 pub struct Last {
     pub up: bool,
-    pub number: u32,
     pub counts: bool,
+    pub number: u32,
 }
 
 pub struct Motor {

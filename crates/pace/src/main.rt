@@ -32,13 +32,6 @@ struct Paced {
     sum: u32,
 }
 
-// The same, with the number of the last action.
-struct Turning {
-    unit: Drive,
-    sum: u32,
-    number: u32,
-}
-
 fn main() {
     let mut input = io::buffer();
     let n = io::read_full(STDIN_FILENO, &mut input);
@@ -203,45 +196,26 @@ fn turn_stream(
     buffer: &mut [u8],
 ) -> u32 {
     let fed = feed_stream(p, stream, stream.len(), image, buffer);
-    let u = fed.unit;
-    let t = Turning {
-        unit: u,
-        sum: fed.sum,
-        number: 0,
-    };
-    add_position(turn_times(t, steps, times, image))
+    turn_times(fed, steps, times, image)
 }
 
-// A turn again and again.
-fn turn_times(t: Turning, steps: u32, times: u32, image: &[u8]) -> Turning {
-    let mut now = t;
+// A turn again and again: at most so many of the steps that the action before allowed are reported. The digest, with the position.
+fn turn_times(p: Paced, steps: u32, times: u32, image: &[u8]) -> u32 {
+    let mut u = p.unit;
+    let mut sum = p.sum;
+    let mut number: u32 = 0;
     for i in 0..times {
-        now = turn_once(now, (i % 16) as u8, steps, image);
+        let turned = drive::turn(u, (i % 16) as u8, 1, least(steps, number), image);
+        let v = turned.unit;
+        u = v;
+        let action = turned.action;
+        let direction = action.direction;
+        number = action.number;
+        sum = std::num::wrapping_add_u32(sum, code_of(direction, number));
     }
-    now
-}
-
-// One turn: at most so many of the steps that the action before allowed are reported.
-fn turn_once(t: Turning, sample: u8, steps: u32, image: &[u8]) -> Turning {
-    let u = t.unit;
-    let turned = drive::turn(u, sample, 1, least(steps, t.number), image);
-    let v = turned.unit;
-    let action = turned.action;
-    let direction = action.direction;
-    let number = action.number;
-    Turning {
-        unit: v,
-        sum: std::num::wrapping_add_u32(t.sum, code_of(direction, number)),
-        number: number,
-    }
-}
-
-// The digest with the position.
-fn add_position(t: Turning) -> u32 {
-    let u = t.unit;
     let core = u.core;
     let motor = core.motor;
-    std::num::wrapping_add_u32(t.sum, motor.position)
+    std::num::wrapping_add_u32(sum, motor.position)
 }
 
 // The lesser of two.

@@ -39,12 +39,20 @@ pub fn padded_text(text: &[u8]) -> [u8; TEXT_BYTES]
     ensures { λ r. ⌜ r ≡ paddedText (now (text .entry)) ⌝ }
 {
     let mut bytes = [0u8; TEXT_BYTES];
-    if TEXT_BYTES < text.len() {
-        put_at(&mut bytes, 0, &text[0..TEXT_BYTES]);
-        return bytes;
-    }
-    put_at(&mut bytes, 0, text);
+    put_text(&mut bytes, text);
     bytes
+}
+
+// The same, in place of another text.
+pub fn put_text(dst: &mut [u8; TEXT_BYTES], text: &[u8])
+    ensures { λ _. ⌜ now (dst .exit) ≡ paddedText (now (text .entry)) ⌝ }
+{
+    *dst = [0u8; TEXT_BYTES];
+    if TEXT_BYTES < text.len() {
+        put_at(dst, 0, &text[0..TEXT_BYTES]);
+        return;
+    }
+    put_at(dst, 0, text);
 }
 
 // All bytes become 0.

@@ -2,9 +2,9 @@
 ghost use mathlib.Core.Path.{_≡_};
 ghost use Prim.Native.Nat.{min};
 ghost use Rattle.commands.specs.Reading.{readAt};
-ghost use Rattle.flow.specs.Flow.{gone};
+ghost use Rattle.flow.specs.Flow.{begun, gone};
 ghost use Rattle.turns.specs.Settings.{defaults, withSpeed, withAcceleration, withFlag, withTurned, withMoveCurrent, withHoldCurrent, withCorrection, withOutputs, withBaud};
-ghost use Rattle.turns.specs.Turns.{stays, skipTaken, withFlow, withMotor, withSettings, freshCore, started, ended, astray, moved, acted, flowed, skipped, jumped, commandTaken, readTaken, isFree, running, stepOf, settled, turnCore, directionOf, actionAnswered};
+ghost use Rattle.turns.specs.Turns.{stays, skipTaken, withFlow, withMotor, withSettings, freshCore, started, ended, astray, moved, acted, flowed, skipped, enters, jumped, commandTaken, readTaken, isFree, running, stepOf, settled, turnCore, directionOf, actionAnswered};
 use commands::Act;
 use commands::Command;
 use commands::Exponent;
@@ -32,14 +32,14 @@ pub struct Settings {
 
 // A unit's record but for its number, its receiver and its text.
 pub struct Core {
-    pub flow: Flow,
-    pub motor: Motor,
-    pub settings: Settings,
     pub running: bool,
     // A line was loaded and has not been run.
     pub loaded: bool,
     // The held code.
     pub code: u8,
+    pub settings: Settings,
+    pub motor: Motor,
+    pub flow: Flow,
 }
 
 // Whether a slot's text becomes the current one.
@@ -324,16 +324,27 @@ fn pass(c: Core, text: &[u8], at: usize) -> Core
 fn jump(c: Core, slot: u32, image: &[u8]) -> Stepped
     ensures { λ r. ⌜ r ≡ jumped slot (now (image .entry)) c ⌝ }
 {
+    let t = image::slot_text(image, slot);
+    let n = t.len();
+    // Only a good slot has a text: it need not be judged twice.
+    if 0 < n {
+        return go_into(c, slot, n);
+    }
     if image::slot_good(image, slot) {
-        let t = image::slot_text(image, slot);
-        let n = t.len();
-        let f = flow::begin(n);
-        return Stepped {
-            core: set_flow(c, f),
-            enter: Enter::Into(slot),
-        };
+        return go_into(c, slot, 0);
     }
     stay(end_run(c, 1))
+}
+
+// A slot's text of so many bytes is begun.
+fn go_into(c: Core, slot: u32, n: usize) -> Stepped
+    ensures { λ r. ⌜ r ≡ enters slot (withFlow (begun n) c) ⌝ }
+{
+    let f = flow::begin(n);
+    Stepped {
+        core: set_flow(c, f),
+        enter: Enter::Into(slot),
+    }
 }
 
 // No slot's text becomes the current one.

@@ -13,4 +13,4 @@ fresh-unit-spec =
     (λ c κs. search needs)
     (λ c κs. search needs)
     (λ c κs. search needs)
-    (λ c. rw (c .begin-with .ensures, c .before .slot-bytes .ensures, c .before .before .fresh .ensures, c .before .before .before .slot-text .ensures)))
+    (λ c. rw (c .padded-text .ensures, c .before .begin-with .ensures, c .before .before .fresh .ensures, c .before .before .before .slot-text .ensures)))

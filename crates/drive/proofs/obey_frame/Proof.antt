@@ -1,5 +1,4 @@
--- `drive::obey_frame` meets its contract: over-long or not.
--- Assumes nothing.
+-- `drive::obey_frame` meets its contract: over-long or not. Assumes nothing.
 use borrow.Author.Needs.{needs}
 use Rattle.drive.proofs.FeedLaws.{frame-long, frame-short}
 use Rattle.drive.proofs.obey_frame.Statement.{statement}
@@ -12,5 +11,4 @@ returns-2 : tie.Need-returns-2
 returns-2 c = frame-short (c .before .before .before .before .before .if1 .left) (c .before .before .obey-body .ensures)
 
 pub obey-frame-spec : {M : Type 1} → statement M
-obey-frame-spec =
-    tie.close (tie.spec (λ c κs. search needs) returns (λ c κs. search needs) (λ c. search needs) returns-2)
+obey-frame-spec = tie.close (tie.spec (λ c κs. search needs) returns (λ c κs. search needs) (λ c. search needs) returns-2)

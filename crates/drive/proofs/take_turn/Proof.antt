@@ -4,6 +4,4 @@ use Rattle.drive.proofs.take_turn.Statement.{statement}
 use Rattle.drive.proofs.take_turn.Tie as tie
 
 pub take-turn-spec : {M : Type 1} → statement M
-take-turn-spec =
-    tie.close
-    (tie.spec (λ c κs. search needs) (λ c κs. search needs) (λ c. simp (c .answer-action .ensures, c .before .after-turn .ensures)))
+take-turn-spec = tie.close (tie.spec (λ c κs. search needs) (λ c. simp (c .answer-action .ensures)))

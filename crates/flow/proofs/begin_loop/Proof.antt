@@ -10,10 +10,8 @@ unfolding loopBegun
 begin-loop-spec =
     tie.close
     (tie.spec
+    (λ c κs. search needs)
+    (λ c κs. search needs)
     (λ c. search needs)
-    (λ c. search needs)
-    (λ c. search needs)
-    (λ c. search needs)
-    (λ c. search needs)
-    (λ c. simp (lt-ltb _ _ (c .if1 .taken)))
+    (λ c. simp (lt-ltb _ _ (c .before .before .if1 .taken), c .before .put-start .ensures, c .put-done .ensures))
     (λ c. simp (le-ltb _ _ (c .if1 .left))))

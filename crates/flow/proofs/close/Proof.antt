@@ -19,20 +19,32 @@ has-run n done z h = rw (ne-eqb n 0 z, le-ltb (done + 1) n (omega arith))
 
 returns : tie.Need-returns
 unfolding again
-returns c = simp (eq-eqb _ _ (c .if1 .taken))
+returns c = simp (eq-eqb _ _ (c .before .if1 .taken), c .start-of .ensures)
+
+returns-2 : tie.Need-returns-2
+returns-2 c =
+    let left = c .before .before .before .before .if1 .left in
+    simp (
+      c .start-of2 .ensures,
+      c .before .put-done .ensures,
+      ← c .before .before .before .done-of .ensures,
+      ne-eqb _ _ left,
+      runs-again _ _ left (c .before .before .if2 .taken),
+    )
+
+returns-3 : tie.Need-returns-3
+returns-3 c = simp (← c .before .done-of .ensures, has-run _ _ (c .before .before .if1 .left) (c .if2 .left))
 
 pub close-spec : {M : Type 1} → statement M
 close-spec =
     tie.close
     (tie.spec
-    (λ c. search needs)
-    (λ c. search needs)
-    (λ c. search needs)
-    (λ c. search needs)
+    (λ c κs. search needs)
     returns
+    (λ c κs. search needs)
     (λ c. search needs)
     (λ c. search needs)
-    (λ c. search needs)
-    (λ c. search needs)
-    (λ c. simp (ne-eqb _ _ (c .before .if1 .left), runs-again _ _ (c .before .if1 .left) (c .if2 .taken)))
-    (λ c. simp (has-run _ _ (c .before .if1 .left) (c .if2 .left))))
+    (λ c κs. search needs)
+    (λ c κs. search needs)
+    returns-2
+    returns-3)
