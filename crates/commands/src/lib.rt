@@ -1,6 +1,6 @@
 // The commands of a line: one read at a place, one written.
 ghost use mathlib.Core.Path.{_≡_};
-ghost use Prim.Native.Nat.{ℕ, _≤_};
+ghost use Prim.Native.Nat.{ℕ};
 ghost use Rattle.digits.specs.Decimal.{WrittenIs};
 ghost use Rattle.commands.specs.Table.{asksOf, commandOf, exponentOf, within};
 ghost use Rattle.commands.specs.Reading.{required, orElse, begins, letterAt, readAt};

@@ -1,7 +1,7 @@
 // The C port: the line check, the image check and the ramp figures, through plain numbers and byte slices.
 ghost use mathlib.Core.Path.{_≡_};
 ghost use Rattle.lines.specs.Bodies.{lineCode};
-ghost use Rattle.firmware.specs.Port.{textNumber, imageNumber, isEndless, figures, rampNumber};
+ghost use Rattle.firmware.specs.Port.{textNumber, imageNumber, figures, rampNumber};
 use image::Checked;
 use ramp::Figures;
 use ramp::RampRecord;

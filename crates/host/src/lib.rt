@@ -1,5 +1,4 @@
 // The host's side: a line written from a list of commands.
-ghost use mathlib.Core.Path.{_≡_};
 ghost use Prim.Native.Nat.{_≤_};
 ghost use lib.ListN.{take, length};
 ghost use Rattle.lines.specs.Lists.{slotText, commandsText, runText, writtenOf};

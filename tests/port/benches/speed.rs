@@ -5,8 +5,9 @@
 //! which is `calls.c` linked with the archive. Beside both the model: this program again. Of each the least of all rounds counts,
 //! less the time of a run that repeats nothing. A ratio above its target is marked.
 //!
-//! `speed` prints times, `speed counts` instructions: by valgrind, and on a processor other than x86-64 those of our programs
-//! alone, by the emulator. `speed pace` and `speed repeat TIMES` are the model's sides, which the others start.
+//! `speed` prints times, `speed counts [MODEL]` instructions: by valgrind, and on a processor other than x86-64 by the emulator;
+//! there MODEL is this program built for x86-64, without which our programs alone are counted. `speed pace` and
+//! `speed repeat TIMES` are the model's sides, which the others start.
 
 use std::env;
 use std::hint::black_box;
@@ -45,11 +46,17 @@ fn main() {
             exit(1)
         }
         [] => table("nanoseconds", time),
-        ["counts"] => table("instructions", count),
+        ["counts"] if HERE => table("instructions", |row| [0, 1].map(|side| Some(count(row, side, &this(), valgrind_count)))),
+        ["counts"] => table("instructions", |row| [Some(count(row, 0, &this(), emulator_count)), None]),
+        ["counts", model] => table("instructions", |row| [0, 1].map(|side| Some(count(row, side, model, emulator_count)))),
         ["pace"] => println!("{}", pace::digest(&input()).expect("what `pace` reads")),
         ["repeat", times] => println!("{}", repeat(&input(), times.parse().expect("a number"))),
-        _ => panic!("speed [counts]"),
+        _ => panic!("speed [counts [MODEL]]"),
     }
+}
+
+fn this() -> String {
+    env::current_exe().expect("this program").display().to_string()
 }
 
 // ---- the table
@@ -57,7 +64,7 @@ fn main() {
 /// What an item costs ours and the model; none where that cannot be told.
 type Costs = [Option<f64>; 2];
 
-fn table(unit: &str, costs: fn(&Row) -> Costs) {
+fn table(unit: &str, costs: impl Fn(&Row) -> Costs) {
     println!("{:<44}{:>9}{:>9}{:>8}{:>8}", format!("{unit} a byte, turn, check or ramp"), "ours", "model", "ratio", "target");
     for row in rows() {
         let [ours, model] = costs(&row);
@@ -85,12 +92,11 @@ enum Work {
 }
 
 impl Row {
-    /// What is started, and its input.
-    fn run(&self, side: usize, times: u32) -> (Vec<String>, Vec<u8>) {
-        let this = env::current_exe().expect("this program").display().to_string();
+    /// What is started, and its input; the model's side is the program `model`.
+    fn run(&self, side: usize, model: &str, times: u32) -> (Vec<String>, Vec<u8>) {
         match &self.work {
-            Work::Pace(mode) => ([vec![PACE.into()], vec![this, "pace".into()]][side].clone(), mode.input(times)),
-            Work::Calls(input) => (vec![[CALLS.into(), this][side].clone(), "repeat".into(), times.to_string()], input.clone()),
+            Work::Pace(mode) => ([vec![PACE.into()], vec![model.into(), "pace".into()]][side].clone(), mode.input(times)),
+            Work::Calls(input) => (vec![[CALLS, model][side].into(), "repeat".into(), times.to_string()], input.clone()),
         }
     }
 }
@@ -99,7 +105,7 @@ impl Row {
 
 fn time(row: &Row) -> Costs {
     let once = |side: usize, times: u32| {
-        let (words, input) = row.run(side, times);
+        let (words, input) = row.run(side, &this(), times);
         let begin = Instant::now();
         let (digest, _) = ended(start(&words, &input));
         (begin.elapsed(), digest)
@@ -139,18 +145,11 @@ fn ended(child: Child) -> (String, String) {
 
 // ---- instructions
 
-/// Less a run of one time, in which the loader finds what is called.
-fn count(row: &Row) -> Costs {
+/// The instructions of an item: less a run of one time, in which the loader finds what is called.
+fn count(row: &Row, side: usize, model: &str, counted: fn(&[String], &[u8]) -> f64) -> f64 {
     let times = 1 + (COUNTED / row.items) as u32;
-    let cost = |side, count: fn(&[String], &[u8]) -> f64| {
-        let [run, first] = [1 + times, 1].map(|times| row.run(side, times)).map(|(words, input)| count(&words, &input));
-        Some((run - first) / f64::from(times) / row.items as f64)
-    };
-    if HERE {
-        [cost(0, valgrind_count), cost(1, valgrind_count)]
-    } else {
-        [cost(0, emulator_count), None]
-    }
+    let [run, first] = [1 + times, 1].map(|times| row.run(side, model, times)).map(|(words, input)| counted(&words, &input));
+    (run - first) / f64::from(times) / row.items as f64
 }
 
 /// The instructions of a whole run, as valgrind counts them.
