@@ -4,7 +4,6 @@ ghost use Rattle.lines.specs.Bodies.{lineCode};
 ghost use Rattle.firmware.specs.Port.{textNumber, imageNumber, figures, rampNumber};
 use image::Checked;
 use ramp::Figures;
-use ramp::RampRecord;
 
 // The code that an idle unit gives to a frame's body: 0, 2 or 3.
 #[no_mangle]

@@ -1,0 +1,48 @@
+// The operand that a letter asks for.
+ghost use mathlib.Core.Path.{_≡_};
+ghost use Prim.Native.Nat.{ℕ};
+ghost use Rattle.commands.specs.Reading.{required, orElse, begins, letterAt};
+ghost use Rattle.commands.specs.Fitting.{finished};
+use crate::Asks;
+use crate::Fitted;
+use crate::Range;
+use crate::table;
+use digits::Operand;
+
+// The number of a letter that asks so, with its operand from a place of s.
+pub(crate) fn fit_at(asks: Asks, s: &[u8], at: usize) -> Fitted
+    ensures { λ r. ⌜ ((l : ℕ) → finished l r ≡ letterAt asks l (now (s .entry)) at) ⌝ }
+{
+    match asks {
+        Asks::Unknown => Fitted::Fails(2),
+        Asks::Nothing => Fitted::Fits(0, at),
+        Asks::Required(range) => fit_required(range, digits::read_operand(s, at), at),
+        Asks::OrElse(range, m) => fit_or(range, m, digits::read_operand(s, at), at),
+    }
+}
+
+// The number of an operand that must stand at `at`.
+fn fit_required(range: Range, operand: Operand, at: usize) -> Fitted
+    requires { ⌜ begins at operand ⌝ }
+    ensures { λ r. ⌜ ((l : ℕ) → finished l r ≡ required l range operand at) ⌝ }
+{
+    let Operand::Number(n, next) = operand else {
+        return Fitted::Fails(3);
+    };
+    if table::is_within(range, n, next - at) {
+        Fitted::Fits(n, next)
+    } else {
+        Fitted::Fails(3)
+    }
+}
+
+// The same, where no operand means the number m.
+fn fit_or(range: Range, m: u32, operand: Operand, at: usize) -> Fitted
+    requires { ⌜ begins at operand ⌝ }
+    ensures { λ r. ⌜ ((l : ℕ) → finished l r ≡ orElse l range m operand at) ⌝ }
+{
+    let Operand::Missing = operand else {
+        return fit_required(range, operand, at);
+    };
+    Fitted::Fits(m, at)
+}
