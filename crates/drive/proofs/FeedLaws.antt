@@ -128,7 +128,7 @@ module _ (u : Drive) (bytes image buffer : List ℕ) {answer : FeedAnswer} {got 
           let none : k ≡ 0 = p .answers ∙ rw q in
           record {
             answers = rw (t, w, ← s, q) (e ∙ rw (call-taken, same, none));
-            image-left = rw (t, w, ← s, q) (h .leaves ∙ rw q);
+            image-left = rw (t, w, ← s) (h .leaves);
             buffer-left = rw (t, w, ← s, q) (p .leaves ∙ rw q);
           }
       taken Frame.Alone q =
@@ -137,8 +137,8 @@ module _ (u : Drive) (bytes image buffer : List ℕ) {answer : FeedAnswer} {got 
           let told : k ≡ length (answerTo o) = p .answers ∙ rw q in
           record {
             answers = rw (t, w, ← s, q, ← framed) (e ∙ rw (call-taken, told));
-            image-left = rw (t, w, ← s, q, ← s) (h .leaves ∙ rw q);
-            buffer-left = rw (t, w, ← s, q, ← s, ← framed) (p .leaves ∙ rw q);
+            image-left = rw (t, w, ← s) (h .leaves);
+            buffer-left = rw (t, w, ← s, ← framed) (p .leaves);
           }
       taken Frame.Group q =
           let s = all-heard call-taken in
@@ -146,7 +146,7 @@ module _ (u : Drive) (bytes image buffer : List ℕ) {answer : FeedAnswer} {got 
           let none : k ≡ 0 = p .answers ∙ rw q in
           record {
             answers = rw (t, w, ← s, q, ← framed) (e ∙ rw (call-taken, none));
-            image-left = rw (t, w, ← s, q, ← s) (h .leaves ∙ rw q);
+            image-left = rw (t, w, ← s) (h .leaves);
             buffer-left = rw (t, w, ← s, q) (p .leaves ∙ rw q);
           }
 

@@ -2,7 +2,7 @@
 -- Assumes nothing.
 use Prim.Native.Nat.{ℕ}
 use mathlib.Core.List.{List, []}
-use mathlib.Core.Bool.{cond, not}
+use mathlib.Core.Bool.{Bool, cond, not}
 use mathlib.Core.Path.{_≡_}
 use lib.ListN.{length}
 use lib.Dec.{ltb}
@@ -85,26 +85,27 @@ feedOf u bytes image buffer =
     cond (ltb (length buffer) packetBytes) (fed FeedAnswer.BufferShort u 0 0)
     (cond (rightLength image) (afterFrame (receivedBy u bytes .frame) (receivedBy u bytes) (obeyedBy u bytes) u) (fed FeedAnswer.ImageLength u 0 0))
 
-abbrev pub imageAfter : Frame → Drive → List ℕ → List ℕ → List ℕ
-imageAfter Frame.Nothing u bytes image = image
-imageAfter Frame.Alone u bytes image = frameImage (receivedBy u bytes .receiver) (u .core .running) image
-imageAfter Frame.Group u bytes image = frameImage (receivedBy u bytes .receiver) (u .core .running) image
+-- what the frame leaves of the image
+abbrev pub imageAfter : Frame → Receiver → Bool → List ℕ → List ℕ
+imageAfter Frame.Nothing r running image = image
+imageAfter Frame.Alone r running image = frameImage r running image
+imageAfter Frame.Group r running image = frameImage r running image
 
 unfoldable pub feedImage : Drive → List ℕ → List ℕ → List ℕ → List ℕ
 feedImage u bytes image buffer =
     cond (ltb (length buffer) packetBytes) image
-    (cond (rightLength image) (imageAfter (receivedBy u bytes .frame) u bytes image) image)
+    (cond (rightLength image) (imageAfter (receivedBy u bytes .frame) (receivedBy u bytes .receiver) (u .core .running) image) image)
 
 -- "Answer bytes past the packet are unchanged; without an answer all are."
-abbrev pub bufferAfter : Frame → Drive → List ℕ → List ℕ → List ℕ
-bufferAfter Frame.Nothing u bytes buffer = buffer
-bufferAfter Frame.Alone u bytes buffer = putIn buffer 0 (answerTo (obeyedBy u bytes))
-bufferAfter Frame.Group u bytes buffer = buffer
+abbrev pub bufferAfter : Frame → Obeyed → List ℕ → List ℕ
+bufferAfter Frame.Nothing o buffer = buffer
+bufferAfter Frame.Alone o buffer = putIn buffer 0 (answerTo o)
+bufferAfter Frame.Group o buffer = buffer
 
 unfoldable pub feedBuffer : Drive → List ℕ → List ℕ → List ℕ → List ℕ
 feedBuffer u bytes image buffer =
     cond (ltb (length buffer) packetBytes) buffer
-    (cond (rightLength image) (bufferAfter (receivedBy u bytes .frame) u bytes buffer) buffer)
+    (cond (rightLength image) (bufferAfter (receivedBy u bytes .frame) (obeyedBy u bytes) buffer) buffer)
 
 -- a packet at the front of a buffer with room for it: its length, and the buffer
 pub record PacketOf (status : ℕ) (bytes buffer : List ℕ) (n : ℕ) (buffer′ : List ℕ) : Type 0 where

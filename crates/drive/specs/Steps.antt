@@ -2,11 +2,10 @@
 -- Assumes nothing.
 use Prim.Native.Nat.{ℕ}
 use mathlib.Core.List.{List}
-use mathlib.Core.Bool.{Bool, cond}
+use mathlib.Core.Bool.{cond}
 use mathlib.Core.Path.{_≡_}
 use lib.ListN.{length}
 use lib.Dec.{ltb}
-use Rattle.parts.specs.Parts.{putIn}
 use Rattle.image.specs.Image.{rightLength}
 use Rattle.answers.specs.Packet.{packetBytes}
 use Rattle.frames.specs.declared.Frame.{Frame}
@@ -20,8 +19,8 @@ use Rattle.obeying.specs.Obeying.{refused}
 use Rattle.drive.specs.declared.FeedAnswer.{FeedAnswer}
 use Rattle.drive.specs.declared.TurnAnswer.{TurnAnswer}
 use Rattle.drive.specs.declared.TurnedCore.{TurnedCore}
-use Rattle.drive.specs.Framed.{frameObeyed, frameImage}
-use Rattle.drive.specs.Calls.{answerTo, mostSample, noAction}
+use Rattle.drive.specs.Framed.{frameObeyed}
+use Rattle.drive.specs.Calls.{answerTo, imageAfter, bufferAfter, mostSample, noAction}
 
 -- ---- feed
 
@@ -42,31 +41,21 @@ completedObeyed Frame.Nothing r c text = refused 0 c text
 completedObeyed Frame.Alone r c text = frameObeyed r c text
 completedObeyed Frame.Group r c text = frameObeyed r c text
 
-abbrev pub completedImage : Frame → Receiver → Bool → List ℕ → List ℕ
-completedImage Frame.Nothing r running image = image
-completedImage Frame.Alone r running image = frameImage r running image
-completedImage Frame.Group r running image = frameImage r running image
-
--- the bytes of the answer, and the buffer
+-- the length of the answer
 abbrev pub completedCount : Frame → Obeyed → ℕ
 completedCount Frame.Nothing o = 0
 completedCount Frame.Alone o = length (answerTo o)
 completedCount Frame.Group o = 0
 
-abbrev pub completedBuffer : Frame → Obeyed → List ℕ → List ℕ
-completedBuffer Frame.Nothing o buffer = buffer
-completedBuffer Frame.Alone o buffer = putIn buffer 0 (answerTo o)
-completedBuffer Frame.Group o buffer = buffer
-
 -- what a completed frame leaves
 pub record CompletedIs (frame : Frame) (r : Receiver) (c : Core) (text image : List ℕ) (o : Obeyed) (after : List ℕ) : Type 0 where
   pub answers : o ≡ completedObeyed frame r c text
-  pub leaves : after ≡ completedImage frame r (c .running) image
+  pub leaves : after ≡ imageAfter frame r (c .running) image
 
 -- what answers it
 pub record AnsweredIs (frame : Frame) (o : Obeyed) (buffer : List ℕ) (n : ℕ) (after : List ℕ) : Type 0 where
   pub answers : n ≡ completedCount frame o
-  pub leaves : after ≡ completedBuffer frame o buffer
+  pub leaves : after ≡ bufferAfter frame o buffer
 
 -- ---- turn
 
