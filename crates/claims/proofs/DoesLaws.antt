@@ -16,51 +16,47 @@ use Rattle.image.specs.Image.{slots}
 use Rattle.image.specs.Claims.{ImageClaims}
 use Rattle.turns.specs.declared.Core.{Core}
 use Rattle.turns.specs.Turns.{started}
+use Rattle.obeying.specs.declared.Write.{Write}
 use Rattle.obeying.specs.declared.Obeyed.{Obeyed}
-use Rattle.obeying.specs.Obeying.{held, lineObeyed, lineImage, loadedAs, loadedFor, bodyObeyed, bodyImage}
+use Rattle.obeying.proofs.DeedLaws.{line-short}
+use Rattle.obeying.specs.Obeying.{writing, lineObeyed, loadedAs, loadedFor, bodyObeyed, textWritten}
 use Rattle.obeying.specs.Obeying as obeying
-use Rattle.obeying.proofs.KindLaws.{line-short}
 use Rattle.runs.proofs.SoundLaws.{text-kept}
 use Rattle.claims.specs.Demand2.{Loads, Stores, LineDoes}
 
 module _ (b : List ℕ) (c : Core) (text image : List ℕ) (is-line : bodyOf b ≡ Body.Line) (idle : c .running ≡ false) where
-  obeyed-as : (t : Taken) → lineOf b ≡ t → bodyObeyed b c text ≡ lineObeyed t b c text
+  obeyed-as : (t : Taken) → lineOf b ≡ t → bodyObeyed b c ≡ lineObeyed t c
   unfolding bodyObeyed
   obeyed-as t e =
-      ap (λ (k : Body). obeying.kindObeyed k b c text) is-line
-      ∙ ap (λ (r : Bool). cond r (obeying.refused obeying.busy c text) (lineObeyed (lineOf b) b c text)) idle
-      ∙ ap (λ (x : Taken). lineObeyed x b c text) e
+      ap (λ (k : Body). obeying.kindObeyed k b c) is-line
+      ∙ ap (λ (r : Bool). cond r (obeying.refused obeying.busy c) (lineObeyed (lineOf b) c)) idle
+      ∙ ap (λ (x : Taken). lineObeyed x c) e
 
-  image-as : (t : Taken) → lineOf b ≡ t → bodyImage b (c .running) image ≡ lineImage t b image
-  unfolding bodyImage
-  image-as t e = rw (is-line, idle, e)
-
-  loaded : (n : ℕ) (run : Bool) (t : List ℕ) → take n t ≡ take n b → Loads b n run c (held (loadedFor run n c) t)
+  loaded : (n : ℕ) (run : Bool) → take n (paddedText (take n b)) ≡ take n b → Loads b n run c text (writing (Write.Text n) (loadedFor run n c))
   unfolding started loadedAs
-  loaded n true t e = record { text = e; begins = refl; runs = refl; loaded = refl; code = refl; motor-same = refl; settings-same = refl }
-  loaded n false t e = record { text = e; begins = refl; runs = refl; loaded = refl; code = refl; motor-same = refl; settings-same = refl }
+  loaded n true e = record { becomes = e; begins = refl; runs = refl; loaded = refl; code = refl; motor-same = refl; settings-same = refl }
+  loaded n false e = record { becomes = e; begins = refl; runs = refl; loaded = refl; code = refl; motor-same = refl; settings-same = refl }
 
-  loads : (n : ℕ) (run : Bool) → lineOf b ≡ Taken.Line n run → Loads b n run c (bodyObeyed b c text)
+  loads : (n : ℕ) (run : Bool) → lineOf b ≡ Taken.Line n run → Loads b n run c text (bodyObeyed b c)
   loads n run e =
       let o = obeyed-as (Taken.Line n run) e in
       let from = taken.held b n run e in
       let short = line-short b is-line in
       let long : length (take n b) ≡ n = simp length-take (omega (arith, from .inside)) in
       let kept : take n (paddedText (take n b)) ≡ take n b = rw long at (text-kept (take n b) (omega (arith, from .inside))) in
-      rw o (loaded n run (paddedText (take n b)) kept)
+      rw o (loaded n run kept)
 
   stores : ImageClaims → (slot at n : ℕ) → lineOf b ≡ Taken.Store slot at n → Stores b slot at n c text image
   stores images slot at n e =
       let o = obeyed-as (Taken.Store slot at n) e in
-      let i = image-as (Taken.Store slot at n) e in
       let from = stored b slot at n e (line-short b is-line) in
       let s = images .stores image slot (part b at n) in
       let l : slot < slots = omega (arith, from .slot-most) in
       record {
         unit-same = ap (λ (x : Obeyed). x .core) o;
-        text-same = ap (λ (x : Obeyed). x .text) o;
-        stored = λ right. rw i (s .holds (s .done right l (from .good)) .text (from .good));
-        stays-good = λ good. rw i (s .stays-good good (from .good));
+        text-same = ap (λ (x : Obeyed). textWritten (x .write) b text) o;
+        stored = λ right. rw o (s .holds (s .done right l (from .good)) .text (from .good));
+        stays-good = λ good. rw o (s .stays-good good (from .good));
       }
 
 pub line-does : ImageClaims → (b : List ℕ) (c : Core) (text image : List ℕ) → LineDoes b c text image

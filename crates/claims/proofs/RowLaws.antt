@@ -15,29 +15,32 @@ use Rattle.image.specs.Image.{rightLength, slots, slotsGood}
 use Rattle.frames.specs.declared.Frame.{Frame}
 use Rattle.answers.specs.Packet.{packet, packetBytes}
 use Rattle.answers.proofs.Writing.{length-packet}
-use Rattle.drive.specs.declared.Drive.{Drive}
+use Rattle.drive.specs.Unit.{Drive}
 use Rattle.drive.specs.declared.StartAnswer.{StartAnswer}
 use Rattle.drive.specs.declared.FeedAnswer.{FeedAnswer}
 use Rattle.drive.specs.declared.TurnAnswer.{TurnAnswer}
 use Rattle.turns.specs.Turns.{turnCore}
 use Rattle.frames.specs.Addresses.{isUnit}
 use Rattle.drive.specs.Names.{startName, feedName, turnName}
-use Rattle.drive.specs.Calls.{noUnit, freshUnit, startAnswer, startOf, fed, afterFrame, obeyedBy, turnRefused, turnTaken, receivedBy, answerTo, feedOf, feedImage, feedBuffer, mostSample, turnOf}
-use Rattle.claims.specs.Demand1.{StartRow, ImageRow, FeedUnchanged, FrameRefused, frameCode, refusalPacket, FeedRow, TurnRow}
+use Rattle.frames.specs.Receive.{bodyIn}
+use Rattle.drive.specs.Calls.{noUnit, freshUnit, starting, startOf, receivedBy, obeyedBy, answerTo, feedRefused, feedTaken, feedOf, mostSample, turnRefused, turnTaken, turnOf}
+use Rattle.drive.proofs.FeedLaws.{put-nothing}
+use Rattle.claims.specs.Demand1.{StartRow, ImageRow, FrameRefused, frameCode, refusalPacket, FeedRow, TurnRow}
 use Rattle.claims.proofs.OrderLaws.{order-row}
 
-pub start-row : (number : ℕ) (image : List ℕ) → StartRow number image
-unfolding startOf
-start-row number image = record {
+pub start-row : (number : ℕ) (image body text : List ℕ) → StartRow number image body text
+unfolding startOf noUnit
+start-row number image body text = record {
   named = go (isUnit number) (rightLength image) (slotsGood image slots);
   unit-number = λ n. rw n;
   image-length = λ n l. rw (n, l);
   image-bad = λ n l g. rw (n, l, g);
   started = λ n l g. rw (n, l, g);
+  texts-same = (refl, refl);
 }
   where
     go : (a b d : Bool)
-        → startName (cond a (cond b (cond d (startAnswer StartAnswer.Started (freshUnit number image)) (startAnswer StartAnswer.ImageBad noUnit)) (startAnswer StartAnswer.ImageLength noUnit)) (startAnswer StartAnswer.UnitNumber noUnit) .answer)
+        → startName (cond a (cond b (cond d (starting StartAnswer.Started (freshUnit number image body)) (starting StartAnswer.ImageBad (noUnit body text))) (starting StartAnswer.ImageLength (noUnit body text))) (starting StartAnswer.UnitNumber (noUnit body text)) .answer)
         ≡ cond a (cond b (cond d "started" "bad image") "image not 4,160 bytes") "unit number not 1 to 16"
     go true true true = refl
     go true true false = refl
@@ -73,49 +76,36 @@ front status buffer l =
     put-in-room buffer 0 (packet status []) (omega (arith, length-packet status [])) ∙ put-front buffer (packet status [])
 
 module _ (u : Drive) (bytes image buffer : List ℕ) where
-  buffer-short : length buffer < packetBytes → FeedUnchanged u bytes image buffer FeedAnswer.BufferShort
-  unfolding feedOf feedImage feedBuffer
-  buffer-short l = let t = lt-ltb (length buffer) packetBytes l in record { refused = rw t; image-same = rw t; buffer-same = rw t }
+  buffer-short : length buffer < packetBytes → feedOf u bytes image buffer ≡ feedRefused FeedAnswer.BufferShort u image buffer
+  unfolding feedOf
+  buffer-short l = rw (lt-ltb (length buffer) packetBytes l)
 
-  image-length : packetBytes ≤ length buffer → rightLength image ≡ false → FeedUnchanged u bytes image buffer FeedAnswer.ImageLength
-  unfolding feedOf feedImage feedBuffer
-  image-length l w =
-      let t = le-ltb (length buffer) packetBytes l in
-      record { refused = rw (t, w); image-same = rw (t, w); buffer-same = rw (t, w) }
+  image-length : packetBytes ≤ length buffer → rightLength image ≡ false → feedOf u bytes image buffer ≡ feedRefused FeedAnswer.ImageLength u image buffer
+  unfolding feedOf
+  image-length l w = rw (le-ltb (length buffer) packetBytes l, w)
 
   module _ (l : packetBytes ≤ length buffer) (w : rightLength image ≡ true) where
     frame-refused : receivedBy u bytes .frame ≡ Frame.Alone → (frameCode u bytes ≡ 0 → ⊥)
         → FrameRefused u bytes image buffer (refusalPacket u (frameCode u bytes))
-    unfolding feedOf feedImage feedBuffer answerTo
+    unfolding feedOf answerTo
     frame-refused f n =
-        let t = le-ltb (length buffer) packetBytes l in
-        let h = order-row (receivedBy u bytes .receiver) (u .core) (u .text) image in
-        record {
-          only-receiver = rw (t, w, f, h .refused n);
-          image-same = rw (t, w, f) (h .image-same n);
-          answered = rw (t, w, f, h .refused n) (front _ buffer l);
-        }
+        let h = order-row (bodyIn (receivedBy u bytes .receiver)) (u .core) in
+        rw (le-ltb (length buffer) packetBytes l, w, f, h .refused n, front _ buffer l)
 
     group-refused : receivedBy u bytes .frame ≡ Frame.Group → (frameCode u bytes ≡ 0 → ⊥) → FrameRefused u bytes image buffer []
-    unfolding feedOf feedImage feedBuffer
+    unfolding feedOf
     group-refused f n =
-        let t = le-ltb (length buffer) packetBytes l in
-        let h = order-row (receivedBy u bytes .receiver) (u .core) (u .text) image in
-        record {
-          only-receiver = rw (t, w, f, h .refused n);
-          image-same = rw (t, w, f) (h .image-same n);
-          answered = rw (t, w, f);
-        }
+        let h = order-row (bodyIn (receivedBy u bytes .receiver)) (u .core) in
+        rw (le-ltb (length buffer) packetBytes l, w, f, h .refused n, put-nothing buffer)
 
-  feed-named : (a b : Bool) (f : Frame)
-      → feedName (cond a (fed FeedAnswer.BufferShort u 0 0) (cond b (afterFrame f (receivedBy u bytes) (obeyedBy u bytes) u) (fed FeedAnswer.ImageLength u 0 0)) .answer)
+  feed-named : (a b : Bool)
+      → feedName (cond a (feedRefused FeedAnswer.BufferShort u image buffer)
+      (cond b (feedTaken (receivedBy u bytes) (obeyedBy u bytes) u image buffer) (feedRefused FeedAnswer.ImageLength u image buffer)) .answer)
       ≡ cond a "answer buffer under 262 bytes" (cond b "taken" "image not 4,160 bytes")
-  feed-named true b f = refl
-  feed-named false true Frame.Nothing = refl
-  feed-named false true Frame.Alone = refl
-  feed-named false true Frame.Group = refl
-  feed-named false false f = refl
+  feed-named true b = refl
+  feed-named false true = refl
+  feed-named false false = refl
 
   pub feed-row : FeedRow u bytes image buffer
   unfolding feedOf
-  feed-row = record { named = feed-named (ltb (length buffer) packetBytes) (rightLength image) (receivedBy u bytes .frame); buffer-short = buffer-short; image-length = image-length; frame-refused = frame-refused; group-refused = group-refused }
+  feed-row = record { named = feed-named (ltb (length buffer) packetBytes) (rightLength image); buffer-short = buffer-short; image-length = image-length; frame-refused = frame-refused; group-refused = group-refused }

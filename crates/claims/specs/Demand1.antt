@@ -13,7 +13,7 @@ use Rattle.image.specs.declared.Checked.{Checked}
 use Rattle.image.specs.Calls.{checkedOf}
 use Rattle.image.specs.Image.{rightLength, slots, slotsGood}
 use Rattle.frames.specs.declared.Frame.{Frame}
-use Rattle.frames.specs.declared.Receiver.{Receiver}
+use Rattle.frames.specs.Receive.{bodyIn}
 use Rattle.frames.specs.Addresses.{isUnit}
 use Rattle.answers.specs.Packet.{packet, packetBytes, statusOf}
 use Rattle.answers.specs.Reading.{isPacket, foundOf, refused, readOf}
@@ -27,44 +27,46 @@ use Rattle.host.specs.Claims.{LineRefusedIs, LineShortIs}
 use Rattle.lines.specs.Lists.{HostList, writtenOf}
 use Rattle.turns.specs.declared.Core.{Core}
 use Rattle.obeying.specs.Obeying as obeying
-use Rattle.drive.specs.declared.Drive.{Drive}
+use Rattle.obeying.specs.Obeying.{bodyObeyed}
+use Rattle.drive.specs.Unit.{Drive, drive}
 use Rattle.drive.specs.declared.StartAnswer.{StartAnswer}
 use Rattle.drive.specs.declared.FeedAnswer.{FeedAnswer}
 use Rattle.drive.specs.declared.TurnAnswer.{TurnAnswer}
 use Rattle.drive.specs.Names.{startName, feedName, turnName}
-use Rattle.drive.specs.Framed.{frameObeyed, frameImage}
-use Rattle.drive.specs.Calls.{drive, noUnit, freshUnit, startAnswer, startOf, fed, receivedBy, feedOf, feedImage, feedBuffer, mostSample, turnRefused, turnOf}
+use Rattle.drive.specs.Calls.{noUnit, freshUnit, starting, startOf, receivedBy, feedRefused, feedOf, mostSample, turnRefused, turnOf}
 use Rattle.claims.specs.Order.{codeInOrder}
 
 -- "at start: unit number not 1 to 16, then image not 4,160 bytes, then bad image | named refusal, no unit"
-pub record StartRow (number : ℕ) (image : List ℕ) : Type 0 where
+pub record StartRow (number : ℕ) (image body text : List ℕ) : Type 0 where
   -- the names, in their order
-  pub named : startName (startOf number image .answer)
+  pub named : startName (startOf number image body text .answer)
       ≡ cond (isUnit number) (cond (rightLength image) (cond (slotsGood image slots) "started" "bad image") "image not 4,160 bytes") "unit number not 1 to 16"
-  pub unit-number : isUnit number ≡ false → startOf number image ≡ startAnswer StartAnswer.UnitNumber noUnit
-  pub image-length : isUnit number ≡ true → rightLength image ≡ false → startOf number image ≡ startAnswer StartAnswer.ImageLength noUnit
+  pub unit-number : isUnit number ≡ false → startOf number image body text ≡ starting StartAnswer.UnitNumber (noUnit body text)
+  pub image-length : isUnit number ≡ true → rightLength image ≡ false → startOf number image body text ≡ starting StartAnswer.ImageLength (noUnit body text)
   pub image-bad : isUnit number ≡ true → rightLength image ≡ true → slotsGood image slots ≡ false
-      → startOf number image ≡ startAnswer StartAnswer.ImageBad noUnit
+      → startOf number image body text ≡ starting StartAnswer.ImageBad (noUnit body text)
   pub started : isUnit number ≡ true → rightLength image ≡ true → slotsGood image slots ≡ true
-      → startOf number image ≡ startAnswer StartAnswer.Started (freshUnit number image)
-
--- a feed call that changes nothing at all
-pub record FeedUnchanged (u : Drive) (bytes image buffer : List ℕ) (answer : FeedAnswer) : Type 0 where
-  pub refused : feedOf u bytes image buffer ≡ fed answer u 0 0
-  pub image-same : feedImage u bytes image buffer ≡ image
-  pub buffer-same : feedBuffer u bytes image buffer ≡ buffer
+      → startOf number image body text ≡ starting StartAnswer.Started (freshUnit number image body)
+  -- "no unit": the texts are as they were lent
+  pub texts-same : (noUnit body text .receiver .body ≡ body) × (noUnit body text .text ≡ text)
 
 -- a feed call whose frame is refused with a code: "packet with the code (none to a group); record beyond the receiver, and image, unchanged";
 -- "Answer bytes past the packet are unchanged; without an answer all are."
-pub record FrameRefused (u : Drive) (bytes image buffer answer : List ℕ) : Type 0 where
-  pub only-receiver : feedOf u bytes image buffer
-      ≡ fed FeedAnswer.Taken (drive (u .number) (receivedBy u bytes .receiver) (u .text) (u .core)) (receivedBy u bytes .consumed) (length answer)
-  pub image-same : feedImage u bytes image buffer ≡ image
-  pub answered : feedBuffer u bytes image buffer ≡ answer ++ drop (length answer) buffer
+abbrev pub FrameRefused : Drive → List ℕ → List ℕ → List ℕ → List ℕ → Type 0
+FrameRefused u bytes image buffer answer =
+    feedOf u bytes image buffer
+    ≡ record {
+      answer = FeedAnswer.Taken;
+      unit = drive (u .number) (receivedBy u bytes .receiver) (u .text) (u .core);
+      consumed = receivedBy u bytes .consumed;
+      answered = length answer;
+      image = image;
+      buffer = answer ++ drop (length answer) buffer;
+    }
 
 -- the code of the frame that these bytes complete
 abbrev pub frameCode : Drive → List ℕ → ℕ
-frameCode u bytes = codeInOrder (receivedBy u bytes .receiver) (u .core)
+frameCode u bytes = codeInOrder (bodyIn (receivedBy u bytes .receiver)) (u .core)
 
 -- a refusal's packet: its code, no data, idle or running as before
 abbrev pub refusalPacket : Drive → ℕ → List ℕ
@@ -75,23 +77,23 @@ pub record FeedRow (u : Drive) (bytes image buffer : List ℕ) : Type 0 where
   pub named : feedName (feedOf u bytes image buffer .answer)
       ≡ cond (ltb (length buffer) packetBytes) "answer buffer under 262 bytes" (cond (rightLength image) "taken" "image not 4,160 bytes")
   -- "answer buffer under 262 bytes | named refusal, 0 consumed, nothing changed"
-  pub buffer-short : length buffer < packetBytes → FeedUnchanged u bytes image buffer FeedAnswer.BufferShort
+  pub buffer-short : length buffer < packetBytes → feedOf u bytes image buffer ≡ feedRefused FeedAnswer.BufferShort u image buffer
   -- "image not 4,160 bytes | the same; tested after the buffer"
-  pub image-length : packetBytes ≤ length buffer → rightLength image ≡ false → FeedUnchanged u bytes image buffer FeedAnswer.ImageLength
+  pub image-length : packetBytes ≤ length buffer → rightLength image ≡ false
+      → feedOf u bytes image buffer ≡ feedRefused FeedAnswer.ImageLength u image buffer
   -- "code 2, 3 or 15", to this unit alone and to a group
   pub frame-refused : packetBytes ≤ length buffer → rightLength image ≡ true → receivedBy u bytes .frame ≡ Frame.Alone
       → (frameCode u bytes ≡ 0 → ⊥) → FrameRefused u bytes image buffer (refusalPacket u (frameCode u bytes))
   pub group-refused : packetBytes ≤ length buffer → rightLength image ≡ true → receivedBy u bytes .frame ≡ Frame.Group
       → (frameCode u bytes ≡ 0 → ⊥) → FrameRefused u bytes image buffer []
 
--- "Order of checks for a frame", for every receiver, core and text
-pub record OrderRow (r : Receiver) (c : Core) (text image : List ℕ) : Type 0 where
-  pub codes : table.oneOf (0 ∷ 2 ∷ 3 ∷ 15 ∷ []) (codeInOrder r c) ≡ true
-  -- "A refused frame carries its own code and no data"; record and image unchanged
-  pub refused : (codeInOrder r c ≡ 0 → ⊥) → frameObeyed r c text ≡ obeying.refused (codeInOrder r c) c text
-  pub image-same : (codeInOrder r c ≡ 0 → ⊥) → frameImage r (c .running) image ≡ image
+-- "Order of checks for a frame", for every body and core
+pub record OrderRow (b : List ℕ) (c : Core) : Type 0 where
+  pub codes : table.oneOf (0 ∷ 2 ∷ 3 ∷ 15 ∷ []) (codeInOrder b c) ≡ true
+  -- "A refused frame carries its own code and no data"; record unchanged, and nothing to write
+  pub refused : (codeInOrder b c ≡ 0 → ⊥) → bodyObeyed b c ≡ obeying.refused (codeInOrder b c) c
   -- "all others carry the held code"
-  pub held : codeInOrder r c ≡ 0 → frameObeyed r c text .code ≡ frameObeyed r c text .core .code
+  pub held : codeInOrder b c ≡ 0 → bodyObeyed b c .code ≡ bodyObeyed b c .core .code
 
 -- "sample over 15, then too many microsteps, in a turn | named refusal, nothing changed; tested after the image length"
 pub record TurnRow (u : Drive) (sample ms steps : ℕ) (image : List ℕ) : Type 0 where
@@ -132,9 +134,9 @@ pub record ImageRow (image : List ℕ) : Type 0 where
   pub good : rightLength image ≡ true → slotsGood image slots ≡ true → checkedOf image ≡ Checked.Good
 
 pub record Demand1 : Type 0 where
-  pub start : (number : ℕ) (image : List ℕ) → StartRow number image
+  pub start : (number : ℕ) (image body text : List ℕ) → StartRow number image body text
   pub feed : (u : Drive) (bytes image buffer : List ℕ) → FeedRow u bytes image buffer
-  pub order : (r : Receiver) (c : Core) (text image : List ℕ) → OrderRow r c text image
+  pub order : (b : List ℕ) (c : Core) → OrderRow b c
   pub turn : (u : Drive) (sample ms steps : ℕ) (image : List ℕ) → TurnRow u sample ms steps image
   pub line : HostRow
   pub packet : (s : List ℕ) → PacketRow s

@@ -24,14 +24,14 @@ use Rattle.ramp.specs.Claims.{RampClaims}
 use Rattle.host.specs.Claims.{HostClaims}
 use Rattle.turns.specs.declared.Core.{Core}
 use Rattle.obeying.specs.declared.Obeyed.{Obeyed}
-use Rattle.obeying.specs.Obeying.{bodyObeyed, bodyImage}
+use Rattle.obeying.specs.Obeying.{bodyObeyed, textWritten, imageWritten}
 use Rattle.stream.specs.Claims.{StreamClaims}
 use Rattle.runs.specs.Packets.{PacketClaims}
 use Rattle.claims.specs.Moves.{MoveTurns}
 
 -- "With `R` it runs; without, it is loaded and held; either way its commands .. become the current text", of an idle unit
-pub record Loads (b : List ℕ) (n : ℕ) (run : Bool) (c : Core) (o : Obeyed) : Type 0 where
-  pub text : take n (o .text) ≡ take n b
+pub record Loads (b : List ℕ) (n : ℕ) (run : Bool) (c : Core) (text : List ℕ) (o : Obeyed) : Type 0 where
+  pub becomes : take n (textWritten (o .write) b text) ≡ take n b
   pub begins : o .core .flow ≡ begun n
   pub runs : o .core .running ≡ run
   pub loaded : o .core .loaded ≡ not run
@@ -42,14 +42,14 @@ pub record Loads (b : List ℕ) (n : ℕ) (run : Bool) (c : Core) (o : Obeyed) :
 
 -- "the text between slot and `R` is stored .. such a line starts no run and leaves the current text"
 pub record Stores (b : List ℕ) (slot at n : ℕ) (c : Core) (text image : List ℕ) : Type 0 where
-  pub unit-same : bodyObeyed b c text .core ≡ c
-  pub text-same : bodyObeyed b c text .text ≡ text
-  pub stored : rightLength image ≡ true → slotText (bodyImage b (c .running) image) slot ≡ part b at n
-  pub stays-good : checkedOf image ≡ Checked.Good → checkedOf (bodyImage b (c .running) image) ≡ Checked.Good
+  pub unit-same : bodyObeyed b c .core ≡ c
+  pub text-same : textWritten (bodyObeyed b c .write) b text ≡ text
+  pub stored : rightLength image ≡ true → slotText (imageWritten (bodyObeyed b c .write) b image) slot ≡ part b at n
+  pub stays-good : checkedOf image ≡ Checked.Good → checkedOf (imageWritten (bodyObeyed b c .write) b image) ≡ Checked.Good
 
 pub record LineDoes (b : List ℕ) (c : Core) (text image : List ℕ) : Type 0 where
   pub loads : (n : ℕ) (run : Bool) → bodyOf b ≡ Body.Line → c .running ≡ false → lineOf b ≡ Taken.Line n run
-      → Loads b n run c (bodyObeyed b c text)
+      → Loads b n run c text (bodyObeyed b c)
   pub stores : (slot at n : ℕ) → bodyOf b ≡ Body.Line → c .running ≡ false → lineOf b ≡ Taken.Store slot at n
       → Stores b slot at n c text image
 

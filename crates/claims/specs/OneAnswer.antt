@@ -13,12 +13,16 @@ use Rattle.answers.specs.Packet.{PacketIs}
 use Rattle.lines.specs.Lists.{HostList}
 use Rattle.host.specs.declared.LineWritten.{LineWritten}
 use Rattle.host.specs.Host.{LineIs}
-use Rattle.turns.specs.declared.Core.{Core}
-use Rattle.obeying.specs.declared.Obeyed.{Obeyed}
-use Rattle.obeying.specs.Obeying.{ObeyedIs}
-use Rattle.drive.specs.declared.Drive.{Drive}
+use Rattle.frames.specs.declared.Progress.{Progress}
+use Rattle.frames.specs.declared.Heard.{Heard}
+use Rattle.frames.specs.Receive.{receiverOf, heardWith, receiveOf}
+use Rattle.drive.specs.declared.Record.{Record}
+use Rattle.drive.specs.declared.Started.{Started}
 use Rattle.drive.specs.declared.Fed.{Fed}
-use Rattle.drive.specs.Calls.{FedIs}
+use Rattle.drive.specs.declared.Turned.{Turned}
+use Rattle.drive.specs.Unit.{unitOf}
+use Rattle.drive.specs.Calls.{startOf, feedOf}
+use Rattle.drive.specs.Promises.{startedWith, fedWith, TurnedIs}
 
 -- an answer and what it leaves of lent bytes: no second pair meets the promise
 abbrev pub Once : {A : Type 0} → (A → List ℕ → Type 0) → Type 0
@@ -36,8 +40,15 @@ pub record OneAnswer : Type 0 where
   pub packet : (buffer : List ℕ) (status : ℕ) (bytes : List ℕ) → Once {A = Written} (PacketIs buffer status bytes)
   -- `host::write_line`
   pub line : (l : HostList) (count : ℕ) (buffer : List ℕ) → Once {A = LineWritten} (LineIs l count buffer)
-  -- `obeying::obey`
-  pub obeyed : (c : Core) (text body image : List ℕ) → Once {A = Obeyed} (ObeyedIs c text body image)
-  -- `drive::feed`: the image and the answer buffer
-  pub fed : {u : Drive} {bytes image buffer x y v w : List ℕ} {r s : Fed} → FedIs u bytes image buffer r x v
-      → FedIs u bytes image buffer s y w → (r ≡ s) × (x ≡ y) × (v ≡ w)
+  -- `frames::receive`: the body
+  pub heard : (p : Progress) (body : List ℕ) (unit : ℕ) (bytes : List ℕ)
+      → Once {A = Heard} (λ h body′. heardWith h body′ ≡ receiveOf (receiverOf p body) unit bytes)
+  -- `drive::start`: the two texts
+  pub started : (number : ℕ) (image body text : List ℕ) {r s : Started} {b c t v : List ℕ} → startedWith r b t ≡ startOf number image body text
+      → startedWith s c v ≡ startOf number image body text → (r ≡ s) × (b ≡ c) × (t ≡ v)
+  -- `drive::feed`: the two texts, the image and the answer buffer
+  pub fed : (u : Record) (body text bytes image buffer : List ℕ) {r s : Fed} {b c t v x y k l : List ℕ}
+      → fedWith r b t x k ≡ feedOf (unitOf u body text) bytes image buffer → fedWith s c v y l ≡ feedOf (unitOf u body text) bytes image buffer
+      → (r ≡ s) × (b ≡ c) × (t ≡ v) × (x ≡ y) × (k ≡ l)
+  -- `drive::turn`: the current text
+  pub turned : (u : Record) (text : List ℕ) (sample ms steps : ℕ) (image : List ℕ) → Once {A = Turned} (TurnedIs u text sample ms steps image)

@@ -1,172 +1,148 @@
--- A feed call from its steps: what is heard, what that completes, what that leaves.
+-- A feed call from its steps: how it is answered, what is heard, what a frame makes of it.
 -- Assumes nothing.
-use Prim.Native.Nat.{ℕ, _≤_, _<_}
-use mathlib.Core.Path.{_≡_, refl, sym, ap, _∙_}
+use Prim.Native.Nat.{ℕ, _≤_}
+use mathlib.Core.Path.{_≡_, refl, ap, _∙_}
 use mathlib.Core.List.{List, [], _∷_}
 use mathlib.Core.Bool.{Bool, true, false, not}
 use native.Mathlib.Omega.{arith}
-use lib.ListN.{length, take}
-use lib.Seq.{take-length}
+use lib.ListN.{length}
 use lib.Dec.{ltb}
 use types.Run.{OneOf}
 use denote.Enum.Declared.{tagOf}
-use borrow.Author.Tests.{lt-ltb, le-ltb, ltb-false}
+use borrow.Author.Tests.{ltb-false}
+use Rattle.parts.specs.Parts.{putIn}
+use Rattle.parts.proofs.Laws.{put-in-room, put-front}
 use Rattle.commands.proofs.ReadingLaws.{not-tag}
-use Rattle.lines.specs.Texts.{mostBytes}
 use Rattle.image.specs.Image.{rightLength}
 use Rattle.answers.specs.Packet.{packetBytes, statusOf}
 use Rattle.frames.specs.declared.Frame.{Frame}
-use Rattle.frames.specs.declared.Receiver.{Receiver}
-use Rattle.frames.specs.declared.Received.{Received}
-use Rattle.frames.specs.Receive.{receiveOf}
-use Rattle.frames.proofs.Frame.{the-type}
+use Rattle.frames.specs.declared.Heard.{Heard}
+use Rattle.frames.specs.Receive.{Received, receiverOf, heardWith, bodyIn, receiveOf}
+use Rattle.frames.proofs.Frame as frame
 use Rattle.turns.specs.declared.Core.{Core}
 use Rattle.obeying.specs.declared.Obeyed.{Obeyed}
-use Rattle.obeying.specs.Obeying.{dataOf, refused, ObeyedIs}
-use Rattle.drive.specs.declared.Drive.{Drive}
+use Rattle.obeying.specs.declared.Write.{Write}
+use Rattle.obeying.specs.Obeying.{dataOf, bodyObeyed}
+use Rattle.obeying.specs.Deeds.{Obeys, tells, nothingTold}
+use Rattle.obeying.proofs.DeedLaws.{body-does}
+use Rattle.drive.specs.declared.Record.{Record}
 use Rattle.drive.specs.declared.Fed.{Fed}
 use Rattle.drive.specs.declared.FeedAnswer.{FeedAnswer}
-use Rattle.drive.specs.Framed.{frameObeyed, frameImage, FramedIs}
-use Rattle.drive.specs.Calls.{drive, answerTo, fed, receivedBy, feedOf, feedImage, feedBuffer, PacketOf, FedIs}
-use Rattle.drive.specs.Steps.{answerOf, heardOf, CompletedIs, AnsweredIs}
+use Rattle.drive.proofs.FeedAnswer as answer
+use Rattle.drive.specs.Unit.{Drive, unitOf}
+use Rattle.drive.specs.Calls.{Feeding, feedRefused, receivedBy, frameObeyed, receivedObeyed, answerTo, answerFor, feedTaken, feedOf}
+use Rattle.drive.specs.Promises.{fedWith}
+use Rattle.drive.specs.Steps.{feedAnswer, WrittenIs, PacketOf, AnsweredIs}
 
--- ---- the frame obeyed
+-- ---- a frame obeyed
 
-pub body-as : {c : Core} {text bytes other image after : List ℕ} {o : Obeyed} → bytes ≡ other → ObeyedIs c text bytes image o after
-    → ObeyedIs c text other image o after
-body-as e h = rw (← e) h
+pub frame-does : (f : Frame) (body : List ℕ) (c : Core) → Obeys body c (frameObeyed f body c)
+frame-does Frame.Nothing body c = tells _ nothingTold
+frame-does Frame.Alone body c = body-does body c
+frame-does Frame.Group body c = body-does body c
 
-pub frame-long : {r : Receiver} {c : Core} {text image : List ℕ} {o : Obeyed} → mostBytes < r .length → o ≡ refused 2 c text
-    → FramedIs r c text image o image
-unfolding frameObeyed frameImage
-frame-long {r} l e = let t = lt-ltb mostBytes (r .length) l in record { answers = rw t e; leaves = rw t }
+-- what the `else` of a `let` knows
+completed : (f : Frame) (body : List ℕ) (c : Core) → OneOf (1 ∷ 2 ∷ []) (tagOf frame.the-type f) → bodyObeyed body c ≡ frameObeyed f body c
+completed Frame.Nothing body c k = absurd (not-tag 1 2 0 (λ e. omega arith) (λ e. omega arith) k)
+completed Frame.Alone body c k = refl
+completed Frame.Group body c k = refl
 
-pub frame-short : {r : Receiver} {c : Core} {text image after : List ℕ} {o : Obeyed} → r .length ≤ mostBytes
-    → ObeyedIs c text (take (r .length) (r .body)) image o after → FramedIs r c text image o after
-unfolding frameObeyed frameImage
-frame-short {r} l h = let t = le-ltb mostBytes (r .length) l in record { answers = rw t (h .answers); leaves = rw t (h .leaves) }
+-- ---- what answers
 
--- ---- a frame completed or not
+-- nothing written changes nothing
+pub put-nothing : (xs : List ℕ) → putIn xs 0 [] ≡ xs
+put-nothing xs = put-in-room xs 0 [] (omega arith) ∙ put-front xs []
 
-pub completed-frame : (f : Frame) {r : Receiver} {c : Core} {text image after : List ℕ} {o : Obeyed} → OneOf (1 ∷ 2 ∷ []) (tagOf the-type f)
-    → FramedIs r c text image o after → CompletedIs f r c text image o after
-completed-frame Frame.Nothing k h = absurd (not-tag 1 2 0 (λ e. omega arith) (λ e. omega arith) k)
-completed-frame Frame.Alone k h = record { answers = h .answers; leaves = h .leaves }
-completed-frame Frame.Group k h = record { answers = h .answers; leaves = h .leaves }
+pub answers-none : {f : Frame} {o : Obeyed} {text buffer : List ℕ} → answerFor f o text ≡ [] → AnsweredIs f o text buffer 0 buffer
+answers-none {buffer = buffer} e = record { answers = rw e; leaves = rw (e, put-nothing buffer) }
 
-pub completed-none : {f : Frame} {r : Receiver} {c : Core} {text image : List ℕ} {o : Obeyed} → f ≡ Frame.Nothing → o ≡ refused 0 c text
-    → CompletedIs f r c text image o image
-completed-none e h = record { answers = rw e h; leaves = rw e }
-
-pub answers-none : {f : Frame} {o : Obeyed} {buffer : List ℕ} → f ≡ Frame.Nothing → AnsweredIs f o buffer 0 buffer
-answers-none e = record { answers = rw e; leaves = rw e }
-
-pub answers-group : {f : Frame} {o : Obeyed} {buffer : List ℕ} → f ≡ Frame.Group → AnsweredIs f o buffer 0 buffer
-answers-group e = record { answers = rw e; leaves = rw e }
-
-pub answers-alone : {f : Frame} {o : Obeyed} {buffer after : List ℕ} {n : ℕ} → f ≡ Frame.Alone
-    → PacketOf (statusOf (not (o .core .running)) (o .code)) (dataOf (o .tell) (o .core .flow .length) (o .text)) buffer n after
-    → AnsweredIs f o buffer n after
+pub answers-alone : {f : Frame} {o : Obeyed} {text buffer after : List ℕ} {n : ℕ} → f ≡ Frame.Alone
+    → PacketOf (statusOf (not (o .core .running)) (o .code)) (dataOf (o .tell) (o .core .flow .length) text) buffer n after
+    → AnsweredIs f o text buffer n after
 unfolding answerTo
 answers-alone e p = record { answers = rw e (p .answers); leaves = rw e (p .leaves) }
 
--- ---- what is heard
-
-pub heard-most : (a : FeedAnswer) (n : ℕ) → heardOf a n ≤ n
-heard-most FeedAnswer.Taken n = omega arith
-heard-most FeedAnswer.BufferShort n = omega arith
-heard-most FeedAnswer.ImageLength n = omega arith
-
--- no bytes complete nothing
-nothing-heard : (r : Receiver) (unit : ℕ) → receiveOf r unit [] ≡ record { receiver = r; consumed = 0; frame = Frame.Nothing }
-unfolding receiveOf
-nothing-heard r unit = refl
-
 -- ---- the call
 
-module _ (u : Drive) (bytes image buffer : List ℕ) {answer : FeedAnswer} {got : Received} (a : answer ≡ answerOf image buffer)
-    (g : got ≡ receiveOf (u .receiver) (u .number) (take (heardOf answer (length bytes)) bytes)) where
-  none-heard : heardOf answer (length bytes) ≡ 0 → got ≡ record { receiver = u .receiver; consumed = 0; frame = Frame.Nothing }
-  none-heard z = g ∙ rw z (nothing-heard (u .receiver) (u .number))
+module _ (u : Drive) (bytes image buffer : List ℕ) where
+  abbrev taken : Feeding
+  taken = feedTaken (receivedBy u bytes) (receivedObeyed (receivedBy u bytes) (u .core)) u image buffer
 
-  all-heard : answer ≡ FeedAnswer.Taken → got ≡ receivedBy u bytes
-  all-heard t = g ∙ rw (t, take-length bytes)
+  abbrev by-answer : FeedAnswer → Feeding
+  by-answer FeedAnswer.Taken = taken
+  by-answer FeedAnswer.BufferShort = feedRefused FeedAnswer.BufferShort u image buffer
+  by-answer FeedAnswer.ImageLength = feedRefused FeedAnswer.ImageLength u image buffer
 
-  -- a frame is completed only where the longest packet has room
-  pub room-there : got .frame ≡ Frame.Alone → packetBytes ≤ length buffer
-  room-there f = go (ltb (length buffer) packetBytes) refl
+  answered-by : by-answer (feedAnswer image buffer) ≡ feedOf u bytes image buffer
+  unfolding feedOf
+  answered-by = short (ltb (length buffer) packetBytes) refl
     where
-      go : (b : Bool) → ltb (length buffer) packetBytes ≡ b → packetBytes ≤ length buffer
-      go false e = ltb-false (length buffer) packetBytes e
-      go true e =
-          let short : answer ≡ FeedAnswer.BufferShort = a ∙ rw e in
-          let none = none-heard (rw short) in
-          let same : Frame.Alone ≡ Frame.Nothing = sym f ∙ ap (λ (x : Received). x .frame) none in
-          let z : _≡_ {A = ℕ} 0 1 = cc in
-          absurd (omega arith)
+      wrong : ltb (length buffer) packetBytes ≡ false → (w : Bool) → rightLength image ≡ w → by-answer (feedAnswer image buffer) ≡ feedOf u bytes image buffer
+      wrong t true w = rw (t, w)
+      wrong t false w = rw (t, w)
 
-  module _ {r : Fed} {o : Obeyed} {k : ℕ} {after out : List ℕ} (h : CompletedIs (got .frame) (got .receiver) (u .core) (u .text) image o after)
-      (p : AnsweredIs (got .frame) o buffer k out)
-      (e : r ≡ fed answer (drive (u .number) (got .receiver) (o .text) (o .core)) (got .consumed) k) where
-    -- refused: nothing was heard, and nothing changes
-    unchanged : (x : FeedAnswer) → answer ≡ x → heardOf x (length bytes) ≡ 0 → (r ≡ fed x u 0 0) × (after ≡ image) × (out ≡ buffer)
-    unchanged x t z =
-        let n = none-heard (rw t z) in
-        let same : o ≡ refused 0 (u .core) (u .text) = h .answers ∙ rw n in
-        let none : k ≡ 0 = p .answers ∙ rw n in
-        (e ∙ rw (t, n, same, none), h .leaves ∙ rw n, p .leaves ∙ rw n)
+      short : (b : Bool) → ltb (length buffer) packetBytes ≡ b → by-answer (feedAnswer image buffer) ≡ feedOf u bytes image buffer
+      short true t = rw t
+      short false t = wrong t (rightLength image) refl
 
-    module _ (t : ltb (length buffer) packetBytes ≡ false) (w : rightLength image ≡ true) where
-      call-taken : answer ≡ FeedAnswer.Taken
-      call-taken = a ∙ rw (t, w)
+  refused-by : (a : FeedAnswer) → OneOf (1 ∷ 2 ∷ []) (tagOf answer.the-type a) → feedRefused a u image buffer ≡ by-answer a
+  refused-by FeedAnswer.Taken k = absurd (not-tag 1 2 0 (λ e. omega arith) (λ e. omega arith) k)
+  refused-by FeedAnswer.BufferShort k = refl
+  refused-by FeedAnswer.ImageLength k = refl
 
-      taken : (f : Frame) → got .frame ≡ f → FedIs u bytes image buffer r after out
-      unfolding feedOf feedImage feedBuffer
-      taken Frame.Nothing q =
-          let s = all-heard call-taken in
-          let same : o ≡ refused 0 (u .core) (u .text) = h .answers ∙ rw q in
-          let none : k ≡ 0 = p .answers ∙ rw q in
-          record {
-            answers = rw (t, w, ← s, q) (e ∙ rw (call-taken, same, none));
-            image-left = rw (t, w, ← s) (h .leaves);
-            buffer-left = rw (t, w, ← s, q) (p .leaves ∙ rw q);
-          }
-      taken Frame.Alone q =
-          let s = all-heard call-taken in
-          let framed : o ≡ frameObeyed (got .receiver) (u .core) (u .text) = h .answers ∙ rw q in
-          let told : k ≡ length (answerTo o) = p .answers ∙ rw q in
-          record {
-            answers = rw (t, w, ← s, q, ← framed) (e ∙ rw (call-taken, told));
-            image-left = rw (t, w, ← s) (h .leaves);
-            buffer-left = rw (t, w, ← s, ← framed) (p .leaves);
-          }
-      taken Frame.Group q =
-          let s = all-heard call-taken in
-          let framed : o ≡ frameObeyed (got .receiver) (u .core) (u .text) = h .answers ∙ rw q in
-          let none : k ≡ 0 = p .answers ∙ rw q in
-          record {
-            answers = rw (t, w, ← s, q, ← framed) (e ∙ rw (call-taken, none));
-            image-left = rw (t, w, ← s) (h .leaves);
-            buffer-left = rw (t, w, ← s, q) (p .leaves ∙ rw q);
-          }
+  pub fed-refused : (a : FeedAnswer) → a ≡ feedAnswer image buffer → OneOf (1 ∷ 2 ∷ []) (tagOf answer.the-type a)
+      → feedRefused a u image buffer ≡ feedOf u bytes image buffer
+  fed-refused a e k = refused-by a k ∙ rw e answered-by
 
-    pub fed-is : FedIs u bytes image buffer r after out
-    unfolding feedOf feedImage feedBuffer
-    fed-is = short (ltb (length buffer) packetBytes) refl
-      where
-        wrong : ltb (length buffer) packetBytes ≡ false → (w : Bool) → rightLength image ≡ w → FedIs u bytes image buffer r after out
-        wrong t true w = taken t w (got .frame) refl
-        wrong t false w =
-            let n = unchanged FeedAnswer.ImageLength (a ∙ rw (t, w)) refl in
-            record { answers = rw (t, w) (n .0); image-left = rw (t, w) (n .1); buffer-left = rw (t, w) (n .2) }
+  pub fed-taken : FeedAnswer.Taken ≡ feedAnswer image buffer → taken ≡ feedOf u bytes image buffer
+  fed-taken e = rw (← e) at answered-by
 
-        short : (b : Bool) → ltb (length buffer) packetBytes ≡ b → FedIs u bytes image buffer r after out
-        short true t =
-            let n = unchanged FeedAnswer.BufferShort (a ∙ rw t) refl in
-            record { answers = rw t (n .0); image-left = rw t (n .1); buffer-left = rw t (n .2) }
-        short false t = wrong t (rightLength image) refl
+-- a call that is taken has room for the longest packet
+pub room-there : (image buffer : List ℕ) → FeedAnswer.Taken ≡ feedAnswer image buffer → packetBytes ≤ length buffer
+room-there image buffer e = go (ltb (length buffer) packetBytes) refl
+  where
+    go : (b : Bool) → ltb (length buffer) packetBytes ≡ b → packetBytes ≤ length buffer
+    go false t = ltb-false (length buffer) packetBytes t
+    go true t = let same : FeedAnswer.Taken ≡ FeedAnswer.BufferShort = rw t at e in let z : _≡_ {A = ℕ} 0 1 = cc in omega arith
 
--- no second answer, no second image and no second buffer meet the promise
-pub fed-once : {u : Drive} {bytes image buffer x y v w : List ℕ} {r s : Fed} → FedIs u bytes image buffer r x v
-    → FedIs u bytes image buffer s y w → (r ≡ s) × (x ≡ y) × (v ≡ w)
-fed-once a b = (a .answers ∙ sym (b .answers), a .image-left ∙ sym (b .image-left), a .buffer-left ∙ sym (b .buffer-left))
+module _ (u : Record) (h : Heard) (body text image buffer : List ℕ) where
+  -- a completed frame from its steps
+  pub frame-fed : {kept text′ image′ buffer′ : List ℕ} {o : Obeyed} {n : ℕ} → kept ≡ bodyIn (receiverOf (h .progress) body) → o ≡ bodyObeyed kept (u .core)
+      → WrittenIs (o .write) kept text image text′ image′ → AnsweredIs (h .frame) o text′ buffer n buffer′
+      → fedWith
+      (record {
+        unit = record { core = o .core; progress = h .progress; number = u .number };
+        consumed = h .consumed;
+        answered = n;
+        answer = FeedAnswer.Taken;
+      })
+      body text′ image′ buffer′
+      ≡ feedTaken (heardWith h body) (bodyObeyed (bodyIn (receiverOf (h .progress) body)) (u .core)) (unitOf u body text) image buffer
+  frame-fed k e w a = rw (a .answers, a .leaves, w .to-text, w .to-image, e, k)
+
+  -- none completed: nothing but the receiver changes
+  pub nothing-fed : h .frame ≡ Frame.Nothing
+      → fedWith
+      (record {
+        unit = record { core = u .core; progress = h .progress; number = u .number };
+        consumed = h .consumed;
+        answered = 0;
+        answer = FeedAnswer.Taken;
+      })
+      body text image buffer
+      ≡ feedTaken (heardWith h body) (receivedObeyed (heardWith h body) (u .core)) (unitOf u body text) image buffer
+  nothing-fed f = rw (f, put-nothing buffer)
+
+module _ (u : Record) (body text bytes image buffer : List ℕ) {after : List ℕ} {h : Heard} where
+  -- what was heard is what the definition receives
+  pub fed-heard : FeedAnswer.Taken ≡ feedAnswer image buffer → heardWith h after ≡ receiveOf (receiverOf (u .progress) body) (u .number) bytes
+      → feedTaken (heardWith h after) (receivedObeyed (heardWith h after) (u .core)) (unitOf u after text) image buffer
+      ≡ feedOf (unitOf u body text) bytes image buffer
+  fed-heard a w =
+      ap (λ (r : Received). feedTaken r (receivedObeyed r (u .core)) (unitOf u body text) image buffer) w ∙ fed-taken (unitOf u body text) bytes image buffer a
+
+  pub fed-frame : FeedAnswer.Taken ≡ feedAnswer image buffer → heardWith h after ≡ receiveOf (receiverOf (u .progress) body) (u .number) bytes
+      → OneOf (1 ∷ 2 ∷ []) (tagOf frame.the-type (h .frame))
+      → feedTaken (heardWith h after) (bodyObeyed (bodyIn (receiverOf (h .progress) after)) (u .core)) (unitOf u after text) image buffer
+      ≡ feedOf (unitOf u body text) bytes image buffer
+  fed-frame a w k = rw (completed (h .frame) (bodyIn (receiverOf (h .progress) after)) (u .core) k) (fed-heard a w)

@@ -6,56 +6,43 @@ use mathlib.Core.Bool.{cond}
 use mathlib.Core.Path.{_≡_}
 use lib.ListN.{length}
 use lib.Dec.{ltb}
+use Rattle.parts.specs.Parts.{putIn}
 use Rattle.image.specs.Image.{rightLength}
-use Rattle.answers.specs.Packet.{packetBytes}
+use Rattle.answers.specs.Packet.{packet, packetBytes}
 use Rattle.frames.specs.declared.Frame.{Frame}
-use Rattle.frames.specs.declared.Receiver.{Receiver}
 use Rattle.turns.specs.declared.Core.{Core}
 use Rattle.turns.specs.declared.Enter.{Enter}
 use Rattle.turns.specs.declared.Stepped.{Stepped}
 use Rattle.turns.specs.Turns.{turnCore, actionAnswered}
 use Rattle.obeying.specs.declared.Obeyed.{Obeyed}
-use Rattle.obeying.specs.Obeying.{refused}
+use Rattle.obeying.specs.declared.Write.{Write}
+use Rattle.obeying.specs.Obeying.{textWritten, imageWritten}
 use Rattle.drive.specs.declared.FeedAnswer.{FeedAnswer}
 use Rattle.drive.specs.declared.TurnAnswer.{TurnAnswer}
 use Rattle.drive.specs.declared.TurnedCore.{TurnedCore}
-use Rattle.drive.specs.Framed.{frameObeyed}
-use Rattle.drive.specs.Calls.{answerTo, imageAfter, bufferAfter, mostSample, noAction}
+use Rattle.drive.specs.Calls.{answerFor, mostSample, noAction}
 
 -- ---- feed
 
 -- how a call is answered
-abbrev pub answerOf : List ℕ → List ℕ → FeedAnswer
-answerOf image buffer =
+abbrev pub feedAnswer : List ℕ → List ℕ → FeedAnswer
+feedAnswer image buffer =
     cond (ltb (length buffer) packetBytes) FeedAnswer.BufferShort (cond (rightLength image) FeedAnswer.Taken FeedAnswer.ImageLength)
 
--- a refused call hears none of its n bytes
-abbrev pub heardOf : FeedAnswer → ℕ → ℕ
-heardOf FeedAnswer.Taken n = n
-heardOf FeedAnswer.BufferShort n = 0
-heardOf FeedAnswer.ImageLength n = 0
+-- what a body has to write, written: the text and the image
+pub record WrittenIs (w : Write) (body text image text′ image′ : List ℕ) : Type 0 where
+  pub to-text : text′ ≡ textWritten w body text
+  pub to-image : image′ ≡ imageWritten w body image
 
--- what a completed frame makes of the core and the text; none changes nothing
-abbrev pub completedObeyed : Frame → Receiver → Core → List ℕ → Obeyed
-completedObeyed Frame.Nothing r c text = refused 0 c text
-completedObeyed Frame.Alone r c text = frameObeyed r c text
-completedObeyed Frame.Group r c text = frameObeyed r c text
+-- a packet at the front of a buffer with room for it: its length, and the buffer
+pub record PacketOf (status : ℕ) (bytes buffer : List ℕ) (n : ℕ) (buffer′ : List ℕ) : Type 0 where
+  pub answers : n ≡ length (packet status bytes)
+  pub leaves : buffer′ ≡ putIn buffer 0 (packet status bytes)
 
--- the length of the answer
-abbrev pub completedCount : Frame → Obeyed → ℕ
-completedCount Frame.Nothing o = 0
-completedCount Frame.Alone o = length (answerTo o)
-completedCount Frame.Group o = 0
-
--- what a completed frame leaves
-pub record CompletedIs (frame : Frame) (r : Receiver) (c : Core) (text image : List ℕ) (o : Obeyed) (after : List ℕ) : Type 0 where
-  pub answers : o ≡ completedObeyed frame r c text
-  pub leaves : after ≡ imageAfter frame r (c .running) image
-
--- what answers it
-pub record AnsweredIs (frame : Frame) (o : Obeyed) (buffer : List ℕ) (n : ℕ) (after : List ℕ) : Type 0 where
-  pub answers : n ≡ completedCount frame o
-  pub leaves : after ≡ bufferAfter frame o buffer
+-- what answers a frame: the length, and the buffer
+pub record AnsweredIs (frame : Frame) (o : Obeyed) (text buffer : List ℕ) (n : ℕ) (after : List ℕ) : Type 0 where
+  pub answers : n ≡ length (answerFor frame o text)
+  pub leaves : after ≡ putIn buffer 0 (answerFor frame o text)
 
 -- ---- turn
 

@@ -1,27 +1,28 @@
 // What a feed call hears, and a completed frame obeyed.
 ghost use mathlib.Core.Path.{_≡_};
-ghost use Prim.Native.Nat.{_≤_};
-ghost use lib.ListN.{length, take};
-ghost use Rattle.frames.specs.declared.Frame.{Frame};
-ghost use Rattle.lines.specs.Texts.{mostBytes};
-ghost use Rattle.obeying.specs.Obeying.{ObeyedIs};
-ghost use Rattle.drive.specs.Framed.{FramedIs};
-ghost use Rattle.drive.specs.Steps.{answerOf, heardOf, CompletedIs};
+ghost use mathlib.Core.List.{List};
+ghost use Prim.Native.Nat.{ℕ, _≤_};
+ghost use lib.ListN.{length};
+ghost use Rattle.answers.specs.Packet.{packetBytes};
+ghost use Rattle.frames.specs.Receive.{receiverOf, heardWith, bodyIn};
+ghost use Rattle.obeying.specs.Obeying.{bodyObeyed};
+ghost use Rattle.drive.specs.Unit.{unitOf};
+ghost use Rattle.drive.specs.declared.FeedAnswer.{FeedAnswer};
+ghost use Rattle.drive.specs.Calls.{feedRefused, feedTaken};
+ghost use Rattle.drive.specs.Promises.{fedWith};
+ghost use Rattle.drive.specs.Steps.{feedAnswer, WrittenIs};
+use crate::Fed;
 use crate::FeedAnswer;
-use frames::Frame;
-use frames::Receiver;
-use obeying::Obeyed;
-use turns::Core;
+use crate::Record;
+use frames::Heard;
+use obeying::Write;
 
 // The longest packet.
 const PACKET_BYTES: usize = 262;
 
-// The code of an over-long body.
-const TOO_LONG: u8 = 2;
-
 // How a feed call is answered.
 pub(crate) fn feed_answer(image: &[u8], buffer: &[u8]) -> FeedAnswer
-    ensures { λ r. ⌜ r ≡ answerOf (now (image .entry)) (now (buffer .entry)) ⌝ }
+    ensures { λ r. ⌜ r ≡ feedAnswer (now (image .entry)) (now (buffer .entry)) ⌝ }
 {
     if buffer.len() < PACKET_BYTES {
         return FeedAnswer::BufferShort;
@@ -32,48 +33,93 @@ pub(crate) fn feed_answer(image: &[u8], buffer: &[u8]) -> FeedAnswer
     FeedAnswer::Taken
 }
 
-// Of n bytes a refused call hears none.
-pub(crate) fn heard(answer: FeedAnswer, n: usize) -> usize
-    ensures { λ r. ⌜ r ≡ heardOf answer n ⌝ }
+// A refused call: nothing is heard, nothing changes.
+pub(crate) fn refuse_feed(u: Record, answer: FeedAnswer) -> Fed
+    ensures { λ r. ⌜ ((body text image buffer : List ℕ)
+        → fedWith r body text image buffer ≡ feedRefused answer (unitOf u body text) image buffer) ⌝ }
 {
-    match answer {
-        FeedAnswer::Taken => n,
-        FeedAnswer::BufferShort => 0,
-        FeedAnswer::ImageLength => 0,
+    Fed {
+        unit: u,
+        consumed: 0,
+        answered: 0,
+        answer: answer,
     }
 }
 
-// A completed frame obeyed; where none was completed nothing changes.
-pub(crate) fn obey_completed(
-    frame: Frame,
-    r: Receiver,
-    c: Core,
-    text: [u8; 256],
+// A call that completes no frame.
+pub(crate) fn feed_nothing(u: Record, h: Heard) -> Fed
+    ensures { λ r. ⌜ r ≡ record {
+      unit = record { core = u .core; progress = h .progress; number = u .number };
+      consumed = h .consumed;
+      answered = 0;
+      answer = FeedAnswer.Taken;
+    } ⌝ }
+{
+    let core = u.core;
+    let progress = h.progress;
+    Fed {
+        unit: Record {
+            core: core,
+            progress: progress,
+            number: u.number,
+        },
+        consumed: h.consumed,
+        answered: 0,
+        answer: FeedAnswer::Taken,
+    }
+}
+
+// A call that completes a frame: its body is obeyed, what it has to write is written, and the answer.
+pub(crate) fn feed_frame(
+    u: Record,
+    h: Heard,
+    body: &[u8; crate::BODY_BYTES],
+    text: &mut [u8; crate::TEXT_BYTES],
     image: &mut [u8],
-) -> Obeyed
-    ensures { λ o. ⌜ CompletedIs frame r c text (now (image .entry)) o (now (image .exit)) ⌝ }
+    buffer: &mut [u8],
+) -> Fed
+    requires { ⌜ packetBytes ≤ length (now buffer) ⌝ }
+    ensures { λ r. ⌜
+        fedWith r (now (body .entry)) (now (text .exit)) (now (image .exit)) (now (buffer .exit))
+        ≡ feedTaken (heardWith h (now (body .entry))) (bodyObeyed (bodyIn (receiverOf (h .progress) (now (body .entry)))) (u .core))
+        (unitOf u (now (body .entry)) (now (text .entry))) (now (image .entry)) (now (buffer .entry))
+        ⌝ }
 {
-    let Frame::Nothing = frame else {
-        return obey_frame(r, c, text, image);
-    };
-    obeying::refuse(c, text, 0)
-}
-
-// The frame that a unit has received, obeyed; of a body over 256 bytes not all are kept.
-fn obey_frame(r: Receiver, c: Core, text: [u8; 256], image: &mut [u8]) -> Obeyed
-    ensures { λ o. ⌜ FramedIs r c text (now (image .entry)) o (now (image .exit)) ⌝ }
-{
-    if crate::MOST_BYTES < r.length {
-        return obeying::refuse(c, text, TOO_LONG);
+    let progress = h.progress;
+    let c = u.core;
+    let kept = parts::first(body, progress.length);
+    let o = obeying::obey(c, kept);
+    let write = o.write;
+    apply(write, kept, text, image);
+    let frame = h.frame;
+    let answered = crate::answering::answer_completed(frame, o, text, buffer);
+    let core = o.core;
+    Fed {
+        unit: Record {
+            core: core,
+            progress: progress,
+            number: u.number,
+        },
+        consumed: h.consumed,
+        answered: answered,
+        answer: FeedAnswer::Taken,
     }
-    let body = r.body;
-    obey_body(body, r.length, c, text, image)
 }
 
-// The first bytes of an array as a body.
-fn obey_body(body: [u8; 256], n: usize, c: Core, text: [u8; 256], image: &mut [u8]) -> Obeyed
-    requires { ⌜ n ≤ mostBytes ⌝ }
-    ensures { λ o. ⌜ ObeyedIs c text (take n body) (now (image .entry)) o (now (image .exit)) ⌝ }
+// What a body has to write, written to the text and the image.
+fn apply(w: Write, body: &[u8], text: &mut [u8; crate::TEXT_BYTES], image: &mut [u8])
+    ensures { λ _. ⌜ WrittenIs w (now (body .entry)) (now (text .entry)) (now (image .entry)) (now (text .exit)) (now (image .exit)) ⌝ }
 {
-    obeying::obey(c, text, &body[0..n], image)
+    match w {
+        Write::Nothing => {}
+        Write::Text(n) => {
+            parts::put_text(text, parts::first(body, n));
+        }
+        Write::Store { slot, at, length } => {
+            image::store(image, slot, parts::part(body, at, length));
+        }
+        Write::Clear => {
+            image::clear(image);
+        }
+    }
 }

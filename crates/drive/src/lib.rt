@@ -1,22 +1,25 @@
-// One drive's side of the DT protocol: the calls that firmware makes.
+// One drive's side of the DT protocol: the calls that firmware makes. A unit is its record, handed over by value, and two texts
+// that the caller lends: the body being received, and the current text.
 mod answering;
 mod feeding;
 mod starting;
 mod turning;
 
 ghost use mathlib.Core.Path.{_≡_};
-ghost use Rattle.drive.specs.Calls.{startOf, FedIs, turnOf};
-use frames::Receiver;
+ghost use Rattle.drive.specs.Unit.{unitOf};
+ghost use Rattle.drive.specs.Calls.{startOf, feedOf};
+ghost use Rattle.drive.specs.Promises.{startedWith, fedWith, TurnedIs};
+use frames::Frame;
+use frames::Progress;
 use image::Checked;
 use turns::Action;
 use turns::Core;
 use turns::Enter;
 
-// A unit's record.
-pub struct Drive {
-    pub receiver: Receiver,
+// A unit without its texts.
+pub struct Record {
     pub core: Core,
-    pub text: [u8; 256],
+    pub progress: Progress,
     pub number: u8,
 }
 
@@ -28,8 +31,8 @@ pub enum StartAnswer {
     ImageBad,
 }
 
-pub struct StartedUnit {
-    pub unit: Drive,
+pub struct Started {
+    pub unit: Record,
     pub answer: StartAnswer,
 }
 
@@ -41,7 +44,7 @@ pub enum FeedAnswer {
 }
 
 pub struct Fed {
-    pub unit: Drive,
+    pub unit: Record,
     pub consumed: usize,
     // Bytes of the answer at the front of the buffer; 0 where there is none.
     pub answered: usize,
@@ -56,8 +59,8 @@ pub enum TurnAnswer {
     Steps,
 }
 
-pub struct TurnedUnit {
-    pub unit: Drive,
+pub struct Turned {
+    pub unit: Record,
     pub action: Action,
     pub answer: TurnAnswer,
 }
@@ -70,75 +73,86 @@ struct TurnedCore {
     answer: TurnAnswer,
 }
 
-// The longest body, and the longest text.
-pub(crate) const MOST_BYTES: usize = 256;
+// The bytes lent for the body being received, one more than the longest body has, and for the current text.
+pub(crate) const BODY_BYTES: usize = 257;
 
-// The unit of a number, idle or running program 0 of the image.
-pub fn start(number: u8, image: &[u8]) -> StartedUnit
-    ensures { λ r. ⌜ r ≡ startOf number (now (image .entry)) ⌝ }
+pub(crate) const TEXT_BYTES: usize = 256;
+
+// The unit of a number, idle or running program 0 of the image. A refused start leaves the texts as they were lent.
+pub fn start(
+    number: u8,
+    image: &[u8],
+    body: &mut [u8; BODY_BYTES],
+    text: &mut [u8; TEXT_BYTES],
+) -> Started
+    ensures { λ r. ⌜
+        startedWith r (now (body .exit)) (now (text .exit))
+        ≡ startOf number (now (image .entry)) (now (body .entry)) (now (text .entry))
+        ⌝ }
 {
     if !starting::is_unit(number) {
         return starting::refuse_start(StartAnswer::UnitNumber);
     }
     let checked = image::check_image(image);
     match checked {
-        Checked::Good => StartedUnit {
-            answer: StartAnswer::Started,
-            unit: starting::fresh_unit(number, image),
-        },
+        Checked::Good => starting::start_unit(number, image, text),
         Checked::WrongLength => starting::refuse_start(StartAnswer::ImageLength),
         Checked::Bad => starting::refuse_start(StartAnswer::ImageBad),
     }
 }
 
 // The bytes of a feed call, up to the end of the first frame for this unit: it is obeyed and, if for it alone, answered.
-// The record is built once, whatever comes: building it in several places costs copies of it.
-pub fn feed(u: Drive, bytes: &[u8], image: &mut [u8], buffer: &mut [u8]) -> Fed
-    ensures { λ r. ⌜ FedIs u (now (bytes .entry)) (now (image .entry)) (now (buffer .entry)) r (now (image .exit)) (now (buffer .exit)) ⌝ }
+pub fn feed(
+    u: Record,
+    body: &mut [u8; BODY_BYTES],
+    text: &mut [u8; TEXT_BYTES],
+    bytes: &[u8],
+    image: &mut [u8],
+    buffer: &mut [u8],
+) -> Fed
+    ensures { λ r. ⌜
+        fedWith r (now (body .exit)) (now (text .exit)) (now (image .exit)) (now (buffer .exit))
+        ≡ feedOf (unitOf u (now (body .entry)) (now (text .entry))) (now (bytes .entry)) (now (image .entry)) (now (buffer .entry))
+        ⌝ }
 {
     let answer = feeding::feed_answer(image, buffer);
-    let n = feeding::heard(answer, bytes.len());
-    let before = u.receiver;
-    let got = frames::receive(before, u.number, &bytes[0..n]);
-    let frame = got.frame;
-    let receiver = got.receiver;
-    let core = u.core;
-    let text = u.text;
-    let o = feeding::obey_completed(frame, receiver, core, text, image);
-    let answered = answering::answer_completed(frame, o, buffer);
-    let core_after = o.core;
-    let text_after = o.text;
-    Fed {
-        unit: Drive {
-            receiver: receiver,
-            core: core_after,
-            text: text_after,
-            number: u.number,
-        },
-        consumed: got.consumed,
-        answered: answered,
-        answer: answer,
-    }
+    let FeedAnswer::Taken = answer else {
+        return feeding::refuse_feed(u, answer);
+    };
+    let before = u.progress;
+    let heard = frames::receive(before, body, u.number, bytes);
+    let frame = heard.frame;
+    let Frame::Nothing = frame else {
+        return feeding::feed_frame(u, heard, body, text, image, buffer);
+    };
+    feeding::feed_nothing(u, heard)
 }
 
-// One turn: the report counted, then a wait served or a command taken. The record is built once, as in `feed`.
-pub fn turn(u: Drive, sample: u8, ms: u32, steps: u32, image: &[u8]) -> TurnedUnit
-    ensures { λ r. ⌜ r ≡ turnOf u sample ms steps (now (image .entry)) ⌝ }
+// One turn: the report counted, then a wait served or a command taken.
+pub fn turn(
+    u: Record,
+    text: &mut [u8; TEXT_BYTES],
+    sample: u8,
+    ms: u32,
+    steps: u32,
+    image: &[u8],
+) -> Turned
+    ensures { λ r. ⌜
+        TurnedIs u (now (text .entry)) sample ms steps (now (image .entry)) r (now (text .exit))
+        ⌝ }
 {
     let c = u.core;
-    let mut text = u.text;
-    let t = turning::turn_core(c, sample, ms, steps, &text, image);
+    let t = turning::turn_core(c, sample, ms, steps, text, image);
     let enter = t.enter;
-    turning::enter_text(&mut text, enter, image);
-    let receiver = u.receiver;
+    turning::enter_text(text, enter, image);
     let core = t.core;
     let action = t.action;
     let answer = t.answer;
-    TurnedUnit {
-        unit: Drive {
-            receiver: receiver,
+    let progress = u.progress;
+    Turned {
+        unit: Record {
             core: core,
-            text: text,
+            progress: progress,
             number: u.number,
         },
         action: action,

@@ -1,23 +1,21 @@
--- The body of a frame: its bytes are stored one after the other, and past the longest body only the length changes.
+-- The body of a frame: its bytes are stored one after the other, up to the most that is kept.
 -- Assumes nothing.
-use Prim.Native.Nat.{ℕ, suc, _+_, _≤_, _<_}
+use Prim.Native.Nat.{ℕ, suc, _+_, _-_, _≤_, _<_}
 use native.Mathlib.Nat.{add-zero, zero-add, add-suc, suc-add}
 use native.Mathlib.Numerals.{add-one}
 use native.Mathlib.Omega.{arith}
 use mathlib.Core.Path.{_≡_, refl, ap, sym, _∙_}
 use mathlib.Core.Bool.{true, false, true≢false}
 use mathlib.Core.Logic.{inl, inr}
-use mathlib.Core.List.{List, [], _∷_, _++_, append-nil}
-use lib.ListN.{length, take, drop, set, getD, length-append, take-append-drop, drop-of-length-le}
-use lib.Seq.{sets, sets-eq, drop-cons, take-append-seam, length-take-le}
+use mathlib.Core.List.{List, [], _∷_, _++_}
+use lib.ListN.{length, take, drop, set, length-append, length-take, length-drop, take-append-drop}
+use lib.Seq.{sets, sets-eq, take-append-seam}
 use lib.Dec.{eqb, ltb}
 use borrow.Author.Tests.{lt-ltb, le-ltb, ne-eqb}
 use Rattle.frames.specs.declared.Place.{Place}
 use Rattle.frames.specs.declared.Frame.{Frame}
-use Rattle.frames.specs.declared.Receiver.{Receiver}
-use Rattle.frames.specs.declared.Received.{Received}
 use Rattle.frames.specs.Addresses.{unitByte, calledOf}
-use Rattle.frames.specs.Receive.{slash, cr, longest, overlong, obeyed, completed, receiverAt, placed, quiet}
+use Rattle.frames.specs.Receive.{slash, cr, mostKept, Receiver, Received, receiverAt, bodyIn, obeyed, completed, placed, quiet}
 use Rattle.frames.specs.Receive.{begun, stored, stepOf, past, receiveOf}
 use Rattle.frames.specs.Claims.{plain, frameOf, Sound, Whole}
 use Rattle.frames.proofs.Steps.{bool, plain-cons, step-slash, step-address, step-inside}
@@ -31,55 +29,45 @@ storedAll (b ∷ bs) r = storedAll bs (stored b r)
 
 stored-place : (b : ℕ) (r : Receiver) → stored b r .place ≡ r .place
 unfolding stored
-stored-place b r = elim (bool (ltb (r .length) longest)) [ inl e ↦ simp e | inr e ↦ simp e ]
+stored-place b r = elim (bool (ltb (r .length) mostKept)) [ inl e ↦ simp e | inr e ↦ simp e ]
 
 storedAll-place : (bs : List ℕ) (r : Receiver) → storedAll bs r .place ≡ r .place
 storedAll-place [] r = refl
 storedAll-place (b ∷ bs) r = storedAll-place bs (stored b r) ∙ stored-place b r
 
 -- where the body fits, it stands at its place
-fits : (p : Place) (n : ℕ) (xs bs : List ℕ) → n + length bs ≤ longest
+fits : (p : Place) (n : ℕ) (xs bs : List ℕ) → n + length bs ≤ mostKept
     → storedAll bs (receiverAt p n xs) ≡ receiverAt p (n + length bs) (sets xs n bs)
 unfolding stored
 fits p n xs [] h = rw add-zero
 fits p n xs (b ∷ bs) h =
-    rw (lt-ltb n longest (omega arith), add-one) (fits p (suc n) (set xs n b) bs (omega arith) ∙ rw (suc-add, add-suc))
+    rw (lt-ltb n mostKept (omega arith), add-one) (fits p (suc n) (set xs n b) bs (omega arith) ∙ rw (suc-add, add-suc))
 
--- from the longest body on, each byte only marks it as over-long
-over : (p : Place) (n : ℕ) (xs : List ℕ) (b : ℕ) (bs : List ℕ) → longest ≤ n
-    → storedAll (b ∷ bs) (receiverAt p n xs) ≡ receiverAt p overlong xs
+-- from there on no byte is kept
+over : (p : Place) (n : ℕ) (xs bs : List ℕ) → (0 < length bs → mostKept ≤ n) → storedAll bs (receiverAt p n xs) ≡ receiverAt p n xs
 unfolding stored
-over p n xs b [] h = rw (le-ltb n longest h)
-over p n xs b (c ∷ bs) h = rw (le-ltb n longest h) (over p overlong xs c bs (omega arith))
+over p n xs [] h = refl
+over p n xs (b ∷ bs) h = let l : mostKept ≤ n = h (omega arith) in rw (le-ltb n mostKept l) (over p n xs bs (λ _. l))
 
 storedAll-append : (bs cs : List ℕ) (r : Receiver) → storedAll (bs ++ cs) r ≡ storedAll cs (storedAll bs r)
 storedAll-append [] cs r = refl
 storedAll-append (b ∷ bs) cs r = storedAll-append bs cs (stored b r)
 
--- a body of at most 256 bytes, in an array of 256
-kept : (p : Place) (xs bs : List ℕ) → length xs ≡ longest → length bs ≤ longest
-    → (storedAll bs (receiverAt p 0 xs) .length ≡ length bs) × (take (length bs) (storedAll bs (receiverAt p 0 xs) .body) ≡ bs)
-kept p xs bs f h =
-    let e : storedAll bs (receiverAt p 0 xs) ≡ receiverAt p (0 + length bs) (sets xs 0 bs) = fits p 0 xs bs (omega arith) in
-    let s : sets xs 0 bs ≡ bs ++ drop (0 + length bs) xs = sets-eq bs xs 0 (omega arith) in
-    rw e (zero-add (length bs), rw s (take-append-seam bs _))
-
--- a longer one
-noted : (p : Place) (xs bs : List ℕ) → length xs ≡ longest → longest < length bs
-    → storedAll bs (receiverAt p 0 xs) ≡ receiverAt p overlong (take longest bs)
-noted p xs bs f h =
-    let head = take longest bs in
-    let b = getD bs longest 0 in
-    let tail = drop (suc longest) bs in
-    let n : length head ≡ longest = length-take-le longest bs (omega arith) in
-    let split : head ++ (b ∷ tail) ≡ bs = rw (← drop-cons bs longest 0 h) (take-append-drop longest bs) in
+-- a body that begins in 257 bytes
+kept : (p : Place) (xs bs : List ℕ) → length xs ≡ mostKept → bodyIn (storedAll bs (receiverAt p 0 xs)) ≡ take mostKept bs
+kept p xs bs f =
+    let head = take mostKept bs in
+    let tail = drop mostKept bs in
+    let n : length head ≤ mostKept = rw (length-take mostKept bs) (omega arith) in
+    let full : 0 < length tail → mostKept ≤ length head =
+    λ h. let l : 0 < length bs - mostKept = rw (← length-drop mostKept bs) h in rw (length-take mostKept bs) (omega arith) in
     let laid : sets xs 0 head ≡ head ++ drop (0 + length head) xs = sets-eq head xs 0 (omega arith) in
-    let none : drop (0 + length head) xs ≡ [] = drop-of-length-le xs {i = 0 + length head} (omega arith) in
-    ap (λ (l : List ℕ). storedAll l (receiverAt p 0 xs)) (sym split)
-    ∙ storedAll-append head (b ∷ tail) (receiverAt p 0 xs)
-    ∙ ap (storedAll (b ∷ tail)) (fits p 0 xs head (omega arith))
-    ∙ over p (0 + length head) (sets xs 0 head) b tail (omega arith)
-    ∙ ap (receiverAt p overlong) (laid ∙ rw none (append-nil head))
+    let stays : storedAll bs (receiverAt p 0 xs) ≡ receiverAt p (0 + length head) (sets xs 0 head) =
+    ap (λ (l : List ℕ). storedAll l (receiverAt p 0 xs)) (sym (take-append-drop mostKept bs))
+    ∙ storedAll-append head tail (receiverAt p 0 xs)
+    ∙ ap (storedAll tail) (fits p 0 xs head (omega arith))
+    ∙ over p (0 + length head) (sets xs 0 head) tail (λ h. rw zero-add (full h)) in
+    rw (stays, zero-add, laid) (take-append-seam head _)
 
 -- the bytes of a body, from a receiver in it
 body-goes : (r : Receiver) (u : ℕ) (bs ys : List ℕ) → obeyed (completed (r .place)) ≡ true → plain bs ≡ true
@@ -121,14 +109,12 @@ whole-at : (p : Place) (r : Receiver) (u a : ℕ) (body : List ℕ) → Sound r 
     → stepOf (placed Place.Address r) u a ≡ quiet (receiverAt p 0 (r .body))
     → Whole (completed p) a body (receiveOf r u (frameOf a body))
 whole-at p r u a body s i q e =
-    let long = noted p (r .body) body (s .full) in
     rw (whole-is p r u a body i q e)
     (record {
       completes = refl;
       consumes = refl;
       leaves = refl;
-      keeps = λ h. kept p (r .body) body (s .full) h;
-      notes = λ h. (ap (λ (t : Receiver). t .length) (long h), ap (λ (t : Receiver). t .body) (long h));
+      keeps = kept p (r .body) body (s .full);
     })
 
 called-at : (c : Frame) (r : Receiver) (u a : ℕ) (body : List ℕ) → Sound r → plain body ≡ true

@@ -10,10 +10,8 @@ use lib.ListN.{length, length-append}
 use lib.Dec.{eqb}
 use Rattle.frames.specs.declared.Place.{Place}
 use Rattle.frames.specs.declared.Frame.{Frame}
-use Rattle.frames.specs.declared.Receiver.{Receiver}
-use Rattle.frames.specs.declared.Received.{Received}
 use Rattle.frames.specs.Addresses.{calledOf}
-use Rattle.frames.specs.Receive.{slash, cr, placed, quiet, stepOf, past, receiveOf}
+use Rattle.frames.specs.Receive.{Receiver, Received, slash, cr, placed, quiet, stepOf, past, receiveOf}
 use Rattle.frames.specs.Claims.{plain, Foreign, unmoved}
 use Rattle.frames.proofs.Steps.{plain-cons, step-slash, step-address, step-outside}
 use Rattle.frames.proofs.Stream.{past-zero, past-more, receive-quiet, cut}

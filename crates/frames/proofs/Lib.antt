@@ -3,3 +3,4 @@ pub mod Addresses
 pub mod Stream
 pub mod Foreign
 pub mod Bodies
+pub mod Once

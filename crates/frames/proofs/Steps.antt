@@ -11,9 +11,8 @@ use lib.Dec.{eqb, ltb}
 use borrow.Author.Tests.{ne-eqb, ltb-true}
 use Rattle.frames.specs.declared.Place.{Place}
 use Rattle.frames.specs.declared.Frame.{Frame}
-use Rattle.frames.specs.declared.Receiver.{Receiver}
 use Rattle.frames.specs.Addresses.{calledOf}
-use Rattle.frames.specs.Receive.{slash, cr, longest, obeyed, completed, placed, quiet, begun, stored, taken, stepOf}
+use Rattle.frames.specs.Receive.{Receiver, slash, cr, mostKept, obeyed, completed, placed, quiet, begun, stored, taken, stepOf}
 use Rattle.frames.specs.Pieces.{outsideOf}
 use Rattle.frames.specs.Claims.{plain, Sound}
 
@@ -69,11 +68,11 @@ skipped r u b o n = step-outside r u b o (ne-eqb b slash n)
 sound-stored : (b : ℕ) (r : Receiver) → Sound r → Sound (stored b r)
 unfolding stored
 sound-stored b r s =
-    elim (bool (ltb (r .length) longest)) [
+    elim (bool (ltb (r .length) mostKept)) [
       | inl e ↦
-          let l : r .length < longest = ltb-true (r .length) longest e in
+          let l : r .length < mostKept = ltb-true (r .length) mostKept e in
           simp e (record { full = length-set (r .body) (r .length) b ∙ s .full; within = omega arith })
-      | inr e ↦ simp e (record { full = s .full; within = omega arith })
+      | inr e ↦ simp e s
     ]
 
 sound-begun : (c : Frame) (r : Receiver) → Sound r → Sound (begun c r)

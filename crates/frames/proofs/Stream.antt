@@ -14,9 +14,7 @@ use lib.Dec.{eqb}
 use borrow.Author.Tests.{eqb-true}
 use Rattle.frames.specs.declared.Place.{Place}
 use Rattle.frames.specs.declared.Frame.{Frame}
-use Rattle.frames.specs.declared.Receiver.{Receiver}
-use Rattle.frames.specs.declared.Received.{Received}
-use Rattle.frames.specs.Receive.{slash, cr, Stepped, obeyed, completed, quiet, stepOf, past, ended, onward, receiveOf}
+use Rattle.frames.specs.Receive.{Receiver, Received, slash, cr, Stepped, obeyed, completed, quiet, stepOf, past, ended, onward, receiveOf}
 use Rattle.frames.specs.Claims.{FirstEnd, Sound}
 use Rattle.frames.proofs.Steps.{bool, sound-step}
 

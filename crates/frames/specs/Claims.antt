@@ -8,11 +8,11 @@ use lib.ListN.{length, take}
 use lib.Dec.{eqb}
 use Rattle.frames.specs.declared.Place.{Place}
 use Rattle.frames.specs.declared.Frame.{Frame}
-use Rattle.frames.specs.declared.Receiver.{Receiver}
-use Rattle.frames.specs.declared.Received.{Received}
+use Rattle.frames.specs.declared.Heard.{Heard}
+use Rattle.frames.specs.declared.Progress.{Progress}
 use Rattle.frames.specs.Addresses.{isUnit, unitByte, pairs, fours, all, isIn, calledOf}
-use Rattle.frames.specs.Receive.{slash, cr, longest, overlong, obeyed, completed, quiet, freshReceiver, stepOf, past}
-use Rattle.frames.specs.Receive.{receiveOf}
+use Rattle.frames.specs.Receive.{slash, cr, mostKept, Receiver, Received, receiverOf, heardWith, bodyIn, freshProgress}
+use Rattle.frames.specs.Receive.{obeyed, completed, quiet, stepOf, past, receiveOf}
 
 -- the units 1 to 16, in twos and in fours
 abbrev pub units : List ℕ
@@ -70,18 +70,17 @@ pub data Foreign (u : ℕ) : List ℕ → Type 0 where
 abbrev pub unmoved : Receiver → List ℕ → Received
 unmoved r xs = record { receiver = r; consumed = length xs; frame = Frame.Nothing }
 
--- the body is an array of 256 bytes, and the length at most that of an over-long one
+-- the body lies in 257 bytes, and no more of them are kept
 pub record Sound (r : Receiver) : Type 0 where
-  pub full : length (r .body) ≡ longest
-  pub within : r .length ≤ overlong
+  pub full : length (r .body) ≡ mostKept
+  pub within : r .length ≤ mostKept
 
 -- a whole frame received: what it completes, and the body that it leaves
 pub record Whole (kind : Frame) (a : ℕ) (body : List ℕ) (f : Received) : Type 0 where
   pub completes : f .frame ≡ kind
   pub consumes : f .consumed ≡ length (frameOf a body)
   pub leaves : f .receiver .place ≡ Place.Outside
-  pub keeps : length body ≤ longest → (f .receiver .length ≡ length body) × (take (length body) (f .receiver .body) ≡ body)
-  pub notes : longest < length body → (f .receiver .length ≡ overlong) × (f .receiver .body ≡ take longest body)
+  pub keeps : bodyIn (f .receiver) ≡ take mostKept body
 
 -- the CR at which a feed call ended: the bytes before it complete nothing, and it ends the body that they have begun
 pub record FirstEnd (r : Receiver) (u : ℕ) (xs : List ℕ) (f : Received) : Type 0 where
@@ -121,4 +120,8 @@ pub record ReceiveClaims (r : Receiver) (u : ℕ) : Type 0 where
 pub record FrameClaims : Type 0 where
   pub addresses : AddressClaims
   pub receiving : (r : Receiver) (u : ℕ) → ReceiveClaims r u
-  pub sound-fresh : Sound freshReceiver
+  pub sound-fresh : (body : List ℕ) → length body ≡ mostKept → Sound (receiverOf freshProgress body)
+  -- the promise of `receive` admits one answer
+  pub one-answer : (p : Progress) (body : List ℕ) (u : ℕ) (bytes : List ℕ) {h g : Heard} {x y : List ℕ}
+      → heardWith h x ≡ receiveOf (receiverOf p body) u bytes → heardWith g y ≡ receiveOf (receiverOf p body) u bytes
+      → (h ≡ g) × (x ≡ y)

@@ -3,12 +3,12 @@
 use Prim.Native.Nat.{ℕ, _+_}
 use mathlib.Core.List.{List, [], _∷_}
 use mathlib.Core.Bool.{Bool, true, false, cond}
-use lib.ListN.{set, replicate}
+use lib.ListN.{set, take}
 use lib.Dec.{ltb, eqb}
 use Rattle.frames.specs.declared.Place.{Place}
 use Rattle.frames.specs.declared.Frame.{Frame}
-use Rattle.frames.specs.declared.Receiver.{Receiver}
-use Rattle.frames.specs.declared.Received.{Received}
+use Rattle.frames.specs.declared.Progress.{Progress}
+use Rattle.frames.specs.declared.Heard.{Heard}
 use Rattle.frames.specs.Addresses.{calledOf}
 
 -- "A frame is `/`, an address byte, a body, CR"
@@ -18,12 +18,9 @@ slash = 47
 abbrev pub cr : ℕ
 cr = 13
 
--- "The body has 0 to 256 bytes"; the length of an over-long one stays one above
-abbrev pub longest : ℕ
-longest = 256
-
-abbrev pub overlong : ℕ
-overlong = longest + 1
+-- "The body has 0 to 256 bytes": one byte more is kept, so that a longer one is seen to be over-long
+abbrev pub mostKept : ℕ
+mostKept = 257
 
 -- "A group frame is obeyed and never answered"
 abbrev pub obeyed : Frame → Bool
@@ -31,18 +28,35 @@ obeyed Frame.Nothing = false
 obeyed Frame.Alone = true
 obeyed Frame.Group = true
 
-abbrev pub answered : Frame → Bool
-answered Frame.Nothing = false
-answered Frame.Alone = true
-answered Frame.Group = false
+-- the receiver: where it stands, how many bytes of a body it keeps, and the bytes, with what earlier frames left behind them
+pub record Receiver : Type 0 where
+  pub place : Place
+  pub length : ℕ
+  pub body : List ℕ
 
--- a receiver from its parts: where it stands, the length of the body, the body
 abbrev pub receiverAt : Place → ℕ → List ℕ → Receiver
 receiverAt p n body = record { place = p; length = n; body = body }
 
--- a receiver that has seen nothing
-abbrev pub freshReceiver : Receiver
-freshReceiver = receiverAt Place.Outside 0 (replicate longest 0)
+-- the body that it keeps
+abbrev pub bodyIn : Receiver → List ℕ
+bodyIn r = take (r .length) (r .body)
+
+-- what a feed call makes of the receiver, how many bytes it consumed, and what they completed
+pub record Received : Type 0 where
+  pub receiver : Receiver
+  pub consumed : ℕ
+  pub frame : Frame
+
+-- a call works on the small part of a receiver by value, and on the body where it lies
+abbrev pub receiverOf : Progress → List ℕ → Receiver
+receiverOf p body = receiverAt (p .place) (p .length) body
+
+abbrev pub heardWith : Heard → List ℕ → Received
+heardWith h body = record { receiver = receiverOf (h .progress) body; consumed = h .consumed; frame = h .frame }
+
+-- it has seen nothing
+abbrev pub freshProgress : Progress
+freshProgress = record { place = Place.Outside; length = 0 }
 
 -- the receiver at another place, all else as it was
 abbrev pub placed : Place → Receiver → Receiver
@@ -63,12 +77,9 @@ begun Frame.Nothing r = placed Place.Outside r
 begun Frame.Alone r = receiverAt Place.Alone 0 (r .body)
 begun Frame.Group r = receiverAt Place.Group 0 (r .body)
 
--- one body byte more; a byte past the longest body is not kept, and the body is over-long
+-- one body byte more; a byte past the most that is kept is not
 unfoldable pub stored : ℕ → Receiver → Receiver
-stored b r =
-    cond (ltb (r .length) longest)
-    (receiverAt (r .place) (r .length + 1) (set (r .body) (r .length) b))
-    (receiverAt (r .place) overlong (r .body))
+stored b r = cond (ltb (r .length) mostKept) (receiverAt (r .place) (r .length + 1) (set (r .body) (r .length) b)) r
 
 -- what a CR completes: a body, and "a CR in the address place ends the frame with no effect"
 abbrev pub completed : Place → Frame

@@ -3,9 +3,9 @@ ghost use mathlib.Core.Path.{_≡_};
 ghost use mathlib.Core.List.{List};
 ghost use Prim.Native.Nat.{ℕ};
 ghost use Rattle.frames.specs.Addresses.{calledOf};
-ghost use Rattle.frames.specs.Receive.{obeyed, receiverAt, freshReceiver, quiet, begun, stored, completed};
+ghost use Rattle.frames.specs.Receive.{receiverAt, receiverOf, heardWith, freshProgress, obeyed, quiet, begun, stored, completed};
 ghost use Rattle.frames.specs.Receive.{stepOf, receiveOf};
-ghost use Rattle.frames.specs.Pieces.{outsideOf, wholeOf, steppedAt, receivedAt};
+ghost use Rattle.frames.specs.Pieces.{outsideOf, wholeOf, steppedAt};
 ghost use Rattle.frames.specs.declared.Place.{Place};
 ghost use Rattle.frames.specs.Claims.{FrameClaims};
 
@@ -25,27 +25,27 @@ pub enum Frame {
     Group,
 }
 
-// `length` counts the bytes of the body and stays one above the longest for an over-long one; what stands behind them is
-// left from earlier frames.
-pub struct Receiver {
+// How far a receiver is: where it stands, and how many bytes of the body it keeps. The body lies where the caller lends it;
+// what stands behind its bytes is left from earlier frames.
+pub struct Progress {
     pub length: usize,
-    pub body: [u8; LONGEST],
     pub place: Place,
 }
 
-// What a feed call makes of the receiver, how many bytes it consumed, and what they completed.
-pub struct Received {
-    pub receiver: Receiver,
+// How far a feed call brings it, how many bytes it consumed, and what they completed.
+pub struct Heard {
+    pub progress: Progress,
     pub consumed: usize,
     pub frame: Frame,
 }
 
-// A frame is `/`, an address byte, a body, CR; the body has 0 to 256 bytes.
+// A frame is `/`, an address byte, a body, CR.
 const SLASH: u8 = b'/';
 
 const CR: u8 = 13;
 
-const LONGEST: usize = 256;
+// The body has 0 to 256 bytes; one more is kept of a longer one.
+const MOST_KEPT: usize = 257;
 
 // Units 1 to 16 are the bytes after `0`; pairs are two apart from `A` on, fours four apart from `Q` on, all is `_`.
 const UNITS: u8 = 16;
@@ -59,67 +59,23 @@ const FOURS: u8 = b'Q';
 const ALL: u8 = b'_';
 
 // A receiver that has seen nothing.
-pub fn fresh() -> Receiver
-    ensures { λ r. ⌜ r ≡ freshReceiver ⌝ }
+pub fn fresh() -> Progress
+    ensures { λ p. ⌜ p ≡ freshProgress ⌝ }
 {
-    Receiver {
+    Progress {
         place: Place::Outside,
         length: 0,
-        body: [0u8; LONGEST],
     }
 }
 
 // The bytes up to and with the CR of the first frame for this unit or its groups, else all.
-pub fn receive(r: Receiver, unit: u8, bytes: &[u8]) -> Received
-    ensures { λ f. ⌜ f ≡ receiveOf r unit (now (bytes .entry)) ⌝ }
-{
-    let mut body = r.body;
-    let n = r.length;
-    let p = r.place;
-    let f = receive_lent(p, n, &mut body, unit, bytes);
-    let place = f.place;
-    let length = f.length;
-    let consumed = f.consumed;
-    let frame = f.frame;
-    Received {
-        receiver: Receiver {
-            place,
-            length,
-            body,
-        },
-        consumed,
-        frame,
-    }
-}
-
-// The receiver without its body, and what the last byte completed.
-struct Head {
-    place: Place,
-    length: usize,
-    frame: Frame,
-}
-
-// What a feed call answers, without the body.
-struct Lent {
-    place: Place,
-    length: usize,
-    consumed: usize,
-    frame: Frame,
-}
-
-// `receive` with the body lent and all else in single values.
-fn receive_lent(
-    place: Place,
-    length: usize,
-    body: &mut [u8; LONGEST],
-    unit: u8,
-    bytes: &[u8],
-) -> Lent
-    ensures { λ f. ⌜
-        receivedAt f (now (body .exit))
-        ≡ receiveOf (receiverAt place length (now (body .entry))) unit (now (bytes .entry))
+pub fn receive(p: Progress, body: &mut [u8; MOST_KEPT], unit: u8, bytes: &[u8]) -> Heard
+    ensures { λ h. ⌜
+        heardWith h (now (body .exit)) ≡ receiveOf (receiverOf p (now (body .entry))) unit (now (bytes .entry))
         ⌝ }
 {
+    let place = p.place;
+    let length = p.length;
     let mut h = Head {
         place,
         length,
@@ -138,15 +94,21 @@ fn receive_lent(
     apart(h, i, Frame::Nothing)
 }
 
+// The receiver without its body, and what the last byte completed.
+struct Head {
+    place: Place,
+    length: usize,
+    frame: Frame,
+}
+
 // What a feed call answers where it ends at h.
-fn apart(h: Head, consumed: usize, frame: Frame) -> Lent
-    ensures { λ f. ⌜ f ≡ record { place = h .place; length = h .length; consumed = consumed; frame = frame } ⌝ }
+fn apart(h: Head, consumed: usize, frame: Frame) -> Heard
+    ensures { λ r. ⌜ ((body : List ℕ) → heardWith r body ≡ record { receiver = wholeOf h body; consumed = consumed; frame = frame }) ⌝ }
 {
     let place = h.place;
     let length = h.length;
-    Lent {
-        place,
-        length,
+    Heard {
+        progress: Progress { place, length },
         consumed,
         frame,
     }
@@ -164,7 +126,7 @@ fn ends(f: Frame) -> bool
 }
 
 // What one byte makes of the receiver.
-fn step(h: Head, body: &mut [u8; LONGEST], unit: u8, b: u8) -> Head
+fn step(h: Head, body: &mut [u8; MOST_KEPT], unit: u8, b: u8) -> Head
     ensures { λ s. ⌜ steppedAt s (now (body .exit)) ≡ stepOf (wholeOf h (now (body .entry))) unit b ⌝ }
 {
     let place = h.place;
@@ -232,11 +194,11 @@ fn outside(p: Place) -> bool
     }
 }
 
-// One body byte more, or the length of an over-long body.
-fn store(place: Place, length: usize, body: &mut [u8; LONGEST], b: u8) -> Head
+// One body byte more, where it is kept.
+fn store(place: Place, length: usize, body: &mut [u8; MOST_KEPT], b: u8) -> Head
     ensures { λ s. ⌜ steppedAt s (now (body .exit)) ≡ quiet (stored b (receiverAt place length (now (body .entry)))) ⌝ }
 {
-    if length < LONGEST {
+    if length < MOST_KEPT {
         body[length] = b;
         return Head {
             place,
@@ -246,7 +208,7 @@ fn store(place: Place, length: usize, body: &mut [u8; LONGEST], b: u8) -> Head
     }
     Head {
         place,
-        length: LONGEST + 1,
+        length,
         frame: Frame::Nothing,
     }
 }

@@ -1,10 +1,9 @@
--- What a body makes of a unit and the image, and what is answered. 01, "Lines" and "What comes back".
+-- What a body makes of a unit, what is answered, and what is to be written to the image. 01, "Lines" and "What comes back".
 -- Assumes nothing.
 use Prim.Native.Nat.{ℕ, _^_, min}
 use mathlib.Core.List.{List, []}
 use mathlib.Core.Bool.{Bool, true, false, cond}
-use mathlib.Core.Path.{_≡_}
-use lib.ListN.{length, take}
+use lib.ListN.{take}
 use Rattle.parts.specs.Parts.{part, paddedText}
 use Rattle.digits.specs.Decimal.{decimal}
 use Rattle.lines.specs.declared.Immediate.{Immediate}
@@ -19,6 +18,7 @@ use Rattle.motor.specs.Motion.{waiting, waitsInput}
 use Rattle.turns.specs.declared.Core.{Core}
 use Rattle.turns.specs.Turns.{core, withMotor, started, ended}
 use Rattle.obeying.specs.declared.Tell.{Tell}
+use Rattle.obeying.specs.declared.Write.{Write}
 use Rattle.obeying.specs.declared.Obeyed.{Obeyed}
 
 -- ---- data
@@ -35,52 +35,59 @@ dataOf Tell.Text n text = take n text
 
 -- ---- what is obeyed
 
-abbrev pub obeyed : Core → List ℕ → ℕ → Tell → Obeyed
-obeyed c text code tell = record { core = c; text = text; code = code; tell = tell }
+abbrev pub obeyed : Core → ℕ → Tell → Write → Obeyed
+obeyed c code tell write = record { core = c; code = code; tell = tell; write = write }
 
--- "A refused frame carries its own code and no data"; "record beyond the receiver .. unchanged"
-abbrev pub refused : ℕ → Core → List ℕ → Obeyed
-refused code c text = obeyed c text code Tell.Nothing
+-- "A refused frame carries its own code and no data"; "record beyond the receiver, and image, unchanged"
+abbrev pub refused : ℕ → Core → Obeyed
+refused code c = obeyed c code Tell.Nothing Write.Nothing
 
--- "all others carry the held code"
-abbrev pub heldTelling : Tell → Core → List ℕ → Obeyed
-heldTelling tell c text = obeyed c text (c .code) tell
+-- "all others carry the held code": with data, with none, or with something to be written
+abbrev pub telling : Tell → Core → Obeyed
+telling tell c = obeyed c (c .code) tell Write.Nothing
 
-abbrev pub held : Core → List ℕ → Obeyed
-held c text = heldTelling Tell.Nothing c text
+abbrev pub silent : Core → Obeyed
+silent c = telling Tell.Nothing c
+
+abbrev pub writing : Write → Core → Obeyed
+writing write c = obeyed c (c .code) Tell.Nothing write
+
+-- where no frame was completed nothing is obeyed
+abbrev pub unheard : Core → Obeyed
+unheard c = silent c
 
 -- "`T` when idle does nothing"; it leaves the held code
 abbrev pub terminated : Core → Core
 terminated c = cond (c .running) (ended (c .code) c) c
 
 -- "Immediate bodies .. are obeyed while running"
-abbrev pub immediateObeyed : Immediate → Core → List ℕ → Obeyed
-immediateObeyed Terminate c text = held (terminated c) text
-immediateObeyed Status c text = held c text
-immediateObeyed CurrentText c text = heldTelling Tell.Text c text
-immediateObeyed Position c text = heldTelling (Tell.Number (c .motor .position)) c text
-immediateObeyed Speed c text = heldTelling (Tell.Number (c .settings .speed)) c text
-immediateObeyed Sample c text = heldTelling (Tell.Number (c .motor .sample)) c text
-immediateObeyed StepSize c text = heldTelling (Tell.Number (stepSize (c .settings .exponent))) c text
-immediateObeyed Correction c text = heldTelling (Tell.Number (c .settings .correction)) c text
-immediateObeyed Clear c text = held c text
+abbrev pub immediateObeyed : Immediate → Core → Obeyed
+immediateObeyed Terminate c = silent (terminated c)
+immediateObeyed Status c = silent c
+immediateObeyed CurrentText c = telling Tell.Text c
+immediateObeyed Position c = telling (Tell.Number (c .motor .position)) c
+immediateObeyed Speed c = telling (Tell.Number (c .settings .speed)) c
+immediateObeyed Sample c = telling (Tell.Number (c .motor .sample)) c
+immediateObeyed StepSize c = telling (Tell.Number (stepSize (c .settings .exponent))) c
+immediateObeyed Correction c = telling (Tell.Number (c .settings .correction)) c
+immediateObeyed Clear c = writing Write.Clear c
 
 -- "running, and not immediate nor a resuming `R` (15)"
 abbrev pub busy : ℕ
 busy = 15
 
 -- "`R` alone ends a wait at `H`"
-abbrev pub resumed : Core → List ℕ → Obeyed
-resumed c text =
-    cond (waitsInput (c .motor .wait)) (held (withMotor (waiting Wait.Nothing (c .motor)) c) text) (refused busy c text)
+abbrev pub resumed : Core → Obeyed
+resumed c =
+    cond (waitsInput (c .motor .wait)) (silent (withMotor (waiting Wait.Nothing (c .motor)) c)) (refused busy c)
 
 -- "when idle it runs a loaded line not yet run, else does nothing"
-abbrev pub runObeyed : Core → List ℕ → Obeyed
-runObeyed c text = cond (c .running) (resumed c text) (held (cond (c .loaded) (started (c .flow .length) c) c) text)
+abbrev pub runObeyed : Core → Obeyed
+runObeyed c = cond (c .running) (resumed c) (silent (cond (c .loaded) (started (c .flow .length) c) c))
 
 -- "`X` alone, when idle, runs the current text again"
-abbrev pub againObeyed : Core → List ℕ → Obeyed
-againObeyed c text = cond (c .running) (refused busy c text) (held (started (c .flow .length) c) text)
+abbrev pub againObeyed : Core → Obeyed
+againObeyed c = cond (c .running) (refused busy c) (silent (started (c .flow .length) c))
 
 -- "without, it is loaded and held": the text is at its beginning, and has not been run
 unfoldable pub loadedAs : ℕ → Core → Core
@@ -91,64 +98,38 @@ abbrev pub loadedFor : Bool → ℕ → Core → Core
 loadedFor run n c = cond run (started n c) (loadedAs n c)
 
 -- "either way its commands .. become the current text"; a store "starts no run and leaves the current text"
-abbrev pub lineObeyed : Taken → List ℕ → Core → List ℕ → Obeyed
-lineObeyed (Taken.Refused f) body c text = refused (f .code) c text
-lineObeyed (Taken.Line n run) body c text = held (loadedFor run n c) (paddedText (take n body))
-lineObeyed (Taken.Store slot at n) body c text = held c text
+abbrev pub lineObeyed : Taken → Core → Obeyed
+lineObeyed (Taken.Refused f) c = refused (f .code) c
+lineObeyed (Taken.Line n run) c = writing (Write.Text n) (loadedFor run n c)
+lineObeyed (Taken.Store slot at n) c = writing (Write.Store slot at n) c
 
 -- "running, and not immediate nor a resuming `R`" comes before the reading
-abbrev pub lineOrBusy : List ℕ → Core → List ℕ → Obeyed
-lineOrBusy body c text = cond (c .running) (refused busy c text) (lineObeyed (lineOf body) body c text)
+abbrev pub lineOrBusy : List ℕ → Core → Obeyed
+lineOrBusy body c = cond (c .running) (refused busy c) (lineObeyed (lineOf body) c)
 
-abbrev pub kindObeyed : Body → List ℕ → Core → List ℕ → Obeyed
-kindObeyed (Body.Refused f) body c text = refused (f .code) c text
-kindObeyed Body.Empty body c text = held c text
-kindObeyed (Body.Immediate i) body c text = immediateObeyed i c text
-kindObeyed Body.Run body c text = runObeyed c text
-kindObeyed Body.Again body c text = againObeyed c text
-kindObeyed Body.Line body c text = lineOrBusy body c text
+abbrev pub kindObeyed : Body → List ℕ → Core → Obeyed
+kindObeyed (Body.Refused f) body c = refused (f .code) c
+kindObeyed Body.Empty body c = silent c
+kindObeyed (Body.Immediate i) body c = immediateObeyed i c
+kindObeyed Body.Run body c = runObeyed c
+kindObeyed Body.Again body c = againObeyed c
+kindObeyed Body.Line body c = lineOrBusy body c
 
-unfoldable pub bodyObeyed : List ℕ → Core → List ℕ → Obeyed
-bodyObeyed body c text = kindObeyed (bodyOf body) body c text
+unfoldable pub bodyObeyed : List ℕ → Core → Obeyed
+bodyObeyed body c = kindObeyed (bodyOf body) body c
 
--- ---- the image: "the text between slot and `R` is stored"; "`?9` writes the good image with all slots empty"
+-- ---- what is written
 
-abbrev pub immediateImage : Immediate → List ℕ → List ℕ
-immediateImage Terminate image = image
-immediateImage Status image = image
-immediateImage CurrentText image = image
-immediateImage Position image = image
-immediateImage Speed image = image
-immediateImage Sample image = image
-immediateImage StepSize image = image
-immediateImage Correction image = image
-immediateImage Clear image = afterClear image
+-- "its commands, one or more, become the current text", zeros behind it
+abbrev pub textWritten : Write → List ℕ → List ℕ → List ℕ
+textWritten Write.Nothing body text = text
+textWritten (Write.Text n) body text = paddedText (take n body)
+textWritten (Write.Store slot at n) body text = text
+textWritten Write.Clear body text = text
 
-abbrev pub lineImage : Taken → List ℕ → List ℕ → List ℕ
-lineImage (Taken.Refused f) body image = image
-lineImage (Taken.Line n run) body image = image
-lineImage (Taken.Store slot at n) body image = afterStore image slot (part body at n)
-
-abbrev pub lineOrBusyImage : List ℕ → Bool → List ℕ → List ℕ
-lineOrBusyImage body running image = cond running image (lineImage (lineOf body) body image)
-
-abbrev pub kindImage : Body → List ℕ → Bool → List ℕ → List ℕ
-kindImage (Body.Refused f) body running image = image
-kindImage Body.Empty body running image = image
-kindImage (Body.Immediate i) body running image = immediateImage i image
-kindImage Body.Run body running image = image
-kindImage Body.Again body running image = image
-kindImage Body.Line body running image = lineOrBusyImage body running image
-
-unfoldable pub bodyImage : List ℕ → Bool → List ℕ → List ℕ
-bodyImage body running image = kindImage (bodyOf body) body running image
-
--- what a body is answered with, and what it leaves of the image
-pub record ObeyedIs (c : Core) (text body image : List ℕ) (answer : Obeyed) (after : List ℕ) : Type 0 where
-  pub answers : answer ≡ bodyObeyed body c text
-  pub leaves : after ≡ bodyImage body (c .running) image
-
--- the same of a line
-pub record LineIs (c : Core) (text body image : List ℕ) (answer : Obeyed) (after : List ℕ) : Type 0 where
-  pub answers : answer ≡ lineOrBusy body c text
-  pub leaves : after ≡ lineOrBusyImage body (c .running) image
+-- "the text between slot and `R` is stored"; "`?9` writes the good image with all slots empty"
+abbrev pub imageWritten : Write → List ℕ → List ℕ → List ℕ
+imageWritten Write.Nothing body image = image
+imageWritten (Write.Text n) body image = image
+imageWritten (Write.Store slot at n) body image = afterStore image slot (part body at n)
+imageWritten Write.Clear body image = afterClear image

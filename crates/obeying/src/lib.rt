@@ -1,11 +1,9 @@
-// What a body makes of a unit and of the image, before any packet is written. 01, "Lines" and "What comes back".
+// What a body makes of a unit, and what is to be written: before any packet or image is. 01, "Lines" and "What comes back".
 ghost use mathlib.Core.Path.{_≡_};
-ghost use Prim.Native.Nat.{_≤_};
-ghost use lib.ListN.{length};
-ghost use Rattle.lines.specs.Texts.{mostBytes};
 ghost use Rattle.turns.specs.Turns.{started};
-ghost use Rattle.obeying.specs.Obeying.{stepSize, refused, heldTelling, terminated, immediateObeyed, immediateImage};
-ghost use Rattle.obeying.specs.Obeying.{resumed, runObeyed, againObeyed, loadedFor, LineIs, ObeyedIs};
+ghost use Rattle.obeying.specs.Obeying.{stepSize, refused, telling, writing, terminated, immediateObeyed};
+ghost use Rattle.obeying.specs.Obeying.{resumed, runObeyed, againObeyed, loadedFor, lineOrBusy, bodyObeyed};
+ghost use Rattle.obeying.specs.Deeds.{BodiesDo};
 use lines::Body;
 use lines::Immediate;
 use lines::Taken;
@@ -19,75 +17,95 @@ pub enum Tell {
     Text,
 }
 
-// What a body makes of a unit, and what is answered.
+// What is to be written.
+pub enum Write {
+    Nothing,
+    // The first bytes of the body, as the current text.
+    Text(usize),
+    // A part of the body, to a slot of the image.
+    Store { slot: u32, at: usize, length: usize },
+    // All slots empty.
+    Clear,
+}
+
+// What a body makes of a core, what is answered, and what is to be written.
 pub struct Obeyed {
     pub core: Core,
-    pub text: [u8; 256],
     pub code: u8,
     pub tell: Tell,
+    pub write: Write,
 }
 
 // Running, and not immediate nor a resuming `R`.
 const BUSY: u8 = 15;
 
-// A body of at most 256 bytes obeyed or refused; the image is written by a store and by `?9`.
-pub fn obey(c: Core, text: [u8; 256], body: &[u8], image: &mut [u8]) -> Obeyed
-    ensures { λ o. ⌜ ObeyedIs c text (now (body .entry)) (now (image .entry)) o (now (image .exit)) ⌝ }
+// A body obeyed or refused.
+pub fn obey(c: Core, body: &[u8]) -> Obeyed
+    ensures { λ o. ⌜ o ≡ bodyObeyed (now (body .entry)) c ⌝ }
 {
     let kind = lines::body_of(body);
     match kind {
-        Body::Refused(f) => refuse(c, text, f.code),
-        Body::Empty => hold(c, text, Tell::Nothing),
-        Body::Immediate(i) => obey_immediate(c, text, i, image),
-        Body::Run => obey_run(c, text),
-        Body::Again => obey_again(c, text),
-        Body::Line => obey_line(c, text, body, image),
+        Body::Refused(f) => refuse(c, f.code),
+        Body::Empty => hold(c, Tell::Nothing),
+        Body::Immediate(i) => obey_immediate(c, i),
+        Body::Run => obey_run(c),
+        Body::Again => obey_again(c),
+        Body::Line => obey_line(c, body),
     }
 }
 
 // A refused frame: its own code and no data.
-pub fn refuse(c: Core, text: [u8; 256], code: u8) -> Obeyed
-    ensures { λ o. ⌜ o ≡ refused code c text ⌝ }
+fn refuse(c: Core, code: u8) -> Obeyed
+    ensures { λ o. ⌜ o ≡ refused code c ⌝ }
 {
     Obeyed {
         core: c,
-        text: text,
         code: code,
         tell: Tell::Nothing,
+        write: Write::Nothing,
     }
 }
 
 // All others: the held code.
-fn hold(c: Core, text: [u8; 256], tell: Tell) -> Obeyed
-    ensures { λ o. ⌜ o ≡ heldTelling tell c text ⌝ }
+fn hold(c: Core, tell: Tell) -> Obeyed
+    ensures { λ o. ⌜ o ≡ telling tell c ⌝ }
 {
     Obeyed {
         core: c,
-        text: text,
         code: c.code,
         tell: tell,
+        write: Write::Nothing,
+    }
+}
+
+// The held code, and something to write.
+fn hold_writing(c: Core, write: Write) -> Obeyed
+    ensures { λ o. ⌜ o ≡ writing write c ⌝ }
+{
+    Obeyed {
+        core: c,
+        code: c.code,
+        tell: Tell::Nothing,
+        write: write,
     }
 }
 
 // An immediate body, obeyed while running too.
-fn obey_immediate(c: Core, text: [u8; 256], i: Immediate, image: &mut [u8]) -> Obeyed
-    ensures { λ o. ⌜ (o ≡ immediateObeyed i c text) × (now (image .exit) ≡ immediateImage i (now (image .entry))) ⌝ }
+fn obey_immediate(c: Core, i: Immediate) -> Obeyed
+    ensures { λ o. ⌜ o ≡ immediateObeyed i c ⌝ }
 {
     let m = c.motor;
     let s = c.settings;
     match i {
-        Immediate::Terminate => hold(terminate(c), text, Tell::Nothing),
-        Immediate::Status => hold(c, text, Tell::Nothing),
-        Immediate::CurrentText => hold(c, text, Tell::Text),
-        Immediate::Position => hold(c, text, Tell::Number(m.position)),
-        Immediate::Speed => hold(c, text, Tell::Number(s.speed)),
-        Immediate::Sample => hold(c, text, Tell::Number(wide(m.sample))),
-        Immediate::StepSize => hold(c, text, Tell::Number(step_size(s.exponent))),
-        Immediate::Correction => hold(c, text, Tell::Number(s.correction)),
-        Immediate::Clear => {
-            image::clear(image);
-            hold(c, text, Tell::Nothing)
-        }
+        Immediate::Terminate => hold(terminate(c), Tell::Nothing),
+        Immediate::Status => hold(c, Tell::Nothing),
+        Immediate::CurrentText => hold(c, Tell::Text),
+        Immediate::Position => hold(c, Tell::Number(m.position)),
+        Immediate::Speed => hold(c, Tell::Number(s.speed)),
+        Immediate::Sample => hold(c, Tell::Number(wide(m.sample))),
+        Immediate::StepSize => hold(c, Tell::Number(step_size(s.exponent))),
+        Immediate::Correction => hold(c, Tell::Number(s.correction)),
+        Immediate::Clear => hold_writing(c, Write::Clear),
     }
 }
 
@@ -126,39 +144,39 @@ fn step_size(exponent: u32) -> u32
 }
 
 // `R` alone: a wait at `H` ends, or a loaded line not yet run runs.
-fn obey_run(c: Core, text: [u8; 256]) -> Obeyed
-    ensures { λ o. ⌜ o ≡ runObeyed c text ⌝ }
+fn obey_run(c: Core) -> Obeyed
+    ensures { λ o. ⌜ o ≡ runObeyed c ⌝ }
 {
     if c.running {
-        return resume(c, text);
+        return resume(c);
     }
     if c.loaded {
-        return hold(run_text(c), text, Tell::Nothing);
+        return hold(run_text(c), Tell::Nothing);
     }
-    hold(c, text, Tell::Nothing)
+    hold(c, Tell::Nothing)
 }
 
 // `R` while running.
-fn resume(c: Core, text: [u8; 256]) -> Obeyed
-    ensures { λ o. ⌜ o ≡ resumed c text ⌝ }
+fn resume(c: Core) -> Obeyed
+    ensures { λ o. ⌜ o ≡ resumed c ⌝ }
 {
     let m = c.motor;
     if motor::waits_input(m) {
         let mut d = c;
         d.motor = motor::resume(m);
-        return hold(d, text, Tell::Nothing);
+        return hold(d, Tell::Nothing);
     }
-    refuse(c, text, BUSY)
+    refuse(c, BUSY)
 }
 
 // `X` alone.
-fn obey_again(c: Core, text: [u8; 256]) -> Obeyed
-    ensures { λ o. ⌜ o ≡ againObeyed c text ⌝ }
+fn obey_again(c: Core) -> Obeyed
+    ensures { λ o. ⌜ o ≡ againObeyed c ⌝ }
 {
     if c.running {
-        return refuse(c, text, BUSY);
+        return refuse(c, BUSY);
     }
-    hold(run_text(c), text, Tell::Nothing)
+    hold(run_text(c), Tell::Nothing)
 }
 
 // The current text run from its beginning.
@@ -170,24 +188,24 @@ fn run_text(c: Core) -> Core
 }
 
 // A line or a store, where the unit is idle.
-fn obey_line(c: Core, text: [u8; 256], body: &[u8], image: &mut [u8]) -> Obeyed
-    requires { ⌜ length (now body) ≤ mostBytes ⌝ }
-    ensures { λ o. ⌜ LineIs c text (now (body .entry)) (now (image .entry)) o (now (image .exit)) ⌝ }
+fn obey_line(c: Core, body: &[u8]) -> Obeyed
+    ensures { λ o. ⌜ o ≡ lineOrBusy (now (body .entry)) c ⌝ }
 {
     if c.running {
-        return refuse(c, text, BUSY);
+        return refuse(c, BUSY);
     }
     let line = lines::line_of(body);
     match line {
-        Taken::Refused(f) => refuse(c, text, f.code),
-        Taken::Line { length, run } => {
-            let t = parts::padded_text(&body[0..length]);
-            hold(load(c, length, run), t, Tell::Nothing)
-        }
-        Taken::Store { slot, at, length } => {
-            image::store(image, slot, &body[at..at + length]);
-            hold(c, text, Tell::Nothing)
-        }
+        Taken::Refused(f) => refuse(c, f.code),
+        Taken::Line { length, run } => hold_writing(load(c, length, run), Write::Text(length)),
+        Taken::Store { slot, at, length } => hold_writing(
+            c,
+            Write::Store {
+                slot: slot,
+                at: at,
+                length: length,
+            },
+        ),
     }
 }
 
@@ -204,3 +222,8 @@ fn load(c: Core, length: usize, run: bool) -> Core
     d.loaded = true;
     d
 }
+
+// Does nothing: its promise is that a body does one of a few things.
+pub fn bodies_do()
+    ensures { λ _. ⌜ BodiesDo ⌝ }
+{}

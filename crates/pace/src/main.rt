@@ -3,7 +3,7 @@
 ghost use Prim.Native.Nat.{_≤_, _<_};
 ghost use lib.ListN.{length};
 use digits::Operand;
-use drive::Drive;
+use drive::Record;
 use libc::STDIN_FILENO;
 use libc::STDOUT_FILENO;
 use turns::Direction;
@@ -11,6 +11,11 @@ use turns::Direction;
 const IMAGE_BYTES: usize = 4160;
 
 const BUFFER_BYTES: usize = 262;
+
+// The texts that a unit is lent.
+const BODY_BYTES: usize = 257;
+
+const TEXT_BYTES: usize = 256;
 
 // Where the status of an answer stands.
 const STATUS_AT: usize = 2;
@@ -28,7 +33,7 @@ struct Task {
 
 // A unit, and the digest of what it has answered.
 struct Paced {
-    unit: Drive,
+    unit: Record,
     sum: u32,
 }
 
@@ -50,7 +55,9 @@ fn pace(input: &[u8]) -> u32 {
     let mut image = [0u8; IMAGE_BYTES];
     image::clear(&mut image);
     let mut buffer = [0u8; BUFFER_BYTES];
-    let s = drive::start(1, &image);
+    let mut body = [0u8; BODY_BYTES];
+    let mut text = [0u8; TEXT_BYTES];
+    let s = drive::start(1, &image, &mut body, &mut text);
     let u = s.unit;
     let p = Paced { unit: u, sum: 0 };
     if task.turns {
@@ -59,6 +66,8 @@ fn pace(input: &[u8]) -> u32 {
             &input[at..],
             task.number,
             task.times,
+            &mut body,
+            &mut text,
             &mut image,
             &mut buffer,
         );
@@ -68,6 +77,8 @@ fn pace(input: &[u8]) -> u32 {
         &input[at..],
         task.number as usize,
         task.times,
+        &mut body,
+        &mut text,
         &mut image,
         &mut buffer,
     )
@@ -111,24 +122,34 @@ fn feed_times(
     stream: &[u8],
     most: usize,
     times: u32,
+    body: &mut [u8; BODY_BYTES],
+    text: &mut [u8; TEXT_BYTES],
     image: &mut [u8],
     buffer: &mut [u8],
 ) -> u32 {
     let mut now = p;
     for _ in 0..times {
-        now = feed_stream(now, stream, most, image, buffer);
+        now = feed_stream(now, stream, most, body, text, image, buffer);
     }
     now.sum
 }
 
 // The stream fed once, in calls of at most so many bytes.
-fn feed_stream(p: Paced, stream: &[u8], most: usize, image: &mut [u8], buffer: &mut [u8]) -> Paced {
+fn feed_stream(
+    p: Paced,
+    stream: &[u8],
+    most: usize,
+    body: &mut [u8; BODY_BYTES],
+    text: &mut [u8; TEXT_BYTES],
+    image: &mut [u8],
+    buffer: &mut [u8],
+) -> Paced {
     let mut u = p.unit;
     let mut sum = p.sum;
     let mut at: usize = 0;
     while at < stream.len() {
         let end = end_of(stream, at, most);
-        let f = drive::feed(u, &stream[at..end], image, buffer);
+        let f = drive::feed(u, body, text, &stream[at..end], image, buffer);
         let v = f.unit;
         u = v;
         sum = add_answer(sum, f.answered, buffer);
@@ -192,20 +213,22 @@ fn turn_stream(
     stream: &[u8],
     steps: u32,
     times: u32,
+    body: &mut [u8; BODY_BYTES],
+    text: &mut [u8; TEXT_BYTES],
     image: &mut [u8],
     buffer: &mut [u8],
 ) -> u32 {
-    let fed = feed_stream(p, stream, stream.len(), image, buffer);
-    turn_times(fed, steps, times, image)
+    let fed = feed_stream(p, stream, stream.len(), body, text, image, buffer);
+    turn_times(fed, steps, times, text, image)
 }
 
 // A turn again and again: at most so many of the steps that the action before allowed are reported. The digest, with the position.
-fn turn_times(p: Paced, steps: u32, times: u32, image: &[u8]) -> u32 {
+fn turn_times(p: Paced, steps: u32, times: u32, text: &mut [u8; TEXT_BYTES], image: &[u8]) -> u32 {
     let mut u = p.unit;
     let mut sum = p.sum;
     let mut number: u32 = 0;
     for i in 0..times {
-        let turned = drive::turn(u, (i % 16) as u8, 1, least(steps, number), image);
+        let turned = drive::turn(u, text, (i % 16) as u8, 1, least(steps, number), image);
         let v = turned.unit;
         u = v;
         let action = turned.action;

@@ -1,10 +1,28 @@
 // Parts of lent bytes: written where there is room, else left as they were.
 ghost use mathlib.Core.Path.{_≡_};
-ghost use lib.ListN.{length, replicate};
-ghost use Rattle.parts.specs.Parts.{paddedText, PutIs};
+ghost use lib.ListN.{length, take, replicate};
+ghost use Rattle.parts.specs.Parts.{part, paddedText, PutIs};
 
 // "The body has 0 to 256 bytes."
 const TEXT_BYTES: usize = 256;
+
+// The first n bytes, or all where there are fewer.
+pub fn first(s: &[u8], n: usize) -> &[u8]
+    ensures { λ r. ⌜ now r ≡ take n (now (s .entry)) ⌝ }
+{
+    if n < s.len() { &s[0..n] } else { s }
+}
+
+// The n bytes from place at, or as many as there are.
+pub fn part(s: &[u8], at: usize, n: usize) -> &[u8]
+    ensures { λ r. ⌜ now r ≡ part (now (s .entry)) at n ⌝ }
+{
+    if at < s.len() {
+        first(&s[at..], n)
+    } else {
+        &s[0..0]
+    }
+}
 
 // Whether src fits dst from place at; if so it is written there, else nothing is.
 pub fn put_at(dst: &mut [u8], at: usize, src: &[u8]) -> bool

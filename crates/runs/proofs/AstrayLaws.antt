@@ -1,4 +1,4 @@
--- Every unit that a fresh start leads to is sound, and a sound unit never goes astray. Assumes nothing.
+-- A sound unit never goes astray. Assumes nothing.
 use Prim.Native.Nat.{ℕ, _≤_}
 use mathlib.Core.Path.{_≡_}
 use mathlib.Core.Bool.{Bool, true, false, false≢true}
@@ -8,21 +8,10 @@ use Rattle.motor.specs.Motion.{room, counted, reported}
 use Rattle.motor.proofs.MotorLaws.{nothing-cut}
 use Rattle.motor.proofs.RoomLaws.{counted-up, counted-down}
 use Rattle.turns.specs.Ends.{Strays, badRead, tooDeep, noneOpen, skipsBad, skipsEnd}
-use Rattle.drive.specs.declared.Drive.{Drive}
-use Rattle.runs.specs.Reach.{Call, Feed, Turn, after, Reached, fresh, called, textOf}
+use Rattle.drive.specs.Unit.{Drive}
+use Rattle.runs.specs.Reach.{textOf}
 use Rattle.runs.specs.Claims.{movedBy, NeverAstray}
-use Rattle.runs.proofs.SoundLaws.{SoundUnit, start-sound}
-use Rattle.runs.proofs.FeedLaws.{feed-sound}
-use Rattle.runs.proofs.TurnLaws.{turn-sound}
-
--- every call, refused or not, leaves a sound unit sound
-call-sound : (u : Drive) (c : Call) → SoundUnit u → SoundUnit (after c u)
-call-sound u (Feed bytes image buffer) h = feed-sound u bytes image buffer h
-call-sound u (Turn sample ms steps image) h = turn-sound u sample ms steps image h
-
-pub reached-sound : {u : Drive} → Reached u → SoundUnit u
-reached-sound (fresh number image e) = start-sound number image e
-reached-sound (called {u} c r) = call-sound u c (reached-sound r)
+use Rattle.runs.proofs.SoundLaws.{SoundUnit}
 
 -- what is counted is counted whole where there is room for it
 counted-whole : (up : Bool) (p steps : ℕ) → steps ≤ room up p → counted up p steps ≡ movedBy up p steps

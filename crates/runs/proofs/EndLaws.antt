@@ -3,73 +3,51 @@ use Prim.Native.Nat.{ℕ}
 use mathlib.Core.Path.{_≡_, refl, sym, subst, _∙_}
 use mathlib.Core.List.{List}
 use mathlib.Core.Bool.{true, false}
-use Rattle.parts.proofs.Laws.{cases}
 use Rattle.commands.specs.Table.{oneOf}
 use Rattle.lines.specs.declared.Immediate.{Immediate}
-use Rattle.lines.specs.declared.Immediate.the-variants.{Terminate, Status, CurrentText, Position, Speed, Sample, StepSize, Correction, Clear}
+use Rattle.lines.specs.declared.Immediate.the-variants.{Terminate}
 use Rattle.lines.specs.declared.Body.{Body}
 use Rattle.lines.specs.Bodies.{bodyOf}
-use Rattle.motor.specs.Motion.{waitsInput}
-use Rattle.frames.specs.declared.Receiver.{Receiver}
 use Rattle.turns.specs.declared.Core.{Core}
 use Rattle.turns.specs.Turns.{ended}
 use Rattle.turns.specs.Ends.{textEnds, flagNotFound, badSlot, unknown, leavesRange, rangeEnds}
 use Rattle.turns.proofs.MoveLaws.{clash}
 use Rattle.turns.proofs.TurnLaws.{EndedBy, cause, straying, turn-only, turn-each}
-use Rattle.drive.specs.declared.Drive.{Drive}
+use Rattle.drive.specs.Unit.{Drive}
 use Rattle.obeying.specs.declared.Obeyed.{Obeyed}
-use Rattle.drive.specs.declared.TurnedUnit.{TurnedUnit}
-use Rattle.obeying.specs.Obeying.{kindObeyed, bodyObeyed}
-use Rattle.drive.specs.Framed.{bodyIn, tooLong, frameObeyed}
+use Rattle.drive.specs.Calls.{Turning}
+use Rattle.obeying.specs.Obeying.{bodyObeyed}
+use Rattle.frames.specs.Receive.{bodyIn}
 use Rattle.drive.specs.Calls.{receivedBy}
+use Rattle.obeying.specs.Deeds.{Obeys, refuses, tells, stores, clears, stops, resumes, again, loads}
+use Rattle.obeying.proofs.DeedLaws.{body-does}
 use Rattle.runs.specs.Reach.{Call, Feed, Turn, after, textOf}
 use Rattle.runs.specs.Causes.{Made, Cause, terminate, inTurn, causeCodes}
 use Rattle.runs.specs.Claims.{EndsExactly}
 use Rattle.runs.proofs.SoundLaws.{SoundUnit}
-use Rattle.runs.proofs.CallLaws.{turn-made, turn-cases, feed-cases, feed-done}
+use Rattle.runs.proofs.CallLaws.{turn-made, turn-cases, feed-cases, feed-done, framed}
 use Rattle.runs.proofs.AstrayLaws.{not-astray}
 
 -- ---- a feed call: only `T` ends a run
 
--- the body that a receiver has completed is `T` or `TR`
-abbrev IsT : Receiver → Type 0
-IsT r = (tooLong r ≡ false) × (bodyOf (bodyIn r) ≡ Body.Immediate Terminate)
-
-module _ (c : Core) (text : List ℕ) (h : c .running ≡ true) where
-  -- where o has ended the run, the held code is as it was, and the body was `T`
-  abbrev OnlyT : Body → Obeyed → Type 0
-  OnlyT b o = o .core .running ≡ false → (b ≡ Body.Immediate Terminate) × (o .core .code ≡ c .code)
-
-  -- of all bodies `T` alone ends a run
-  kind-only : (b : Body) (body : List ℕ) → OnlyT b (kindObeyed b body c text)
+module _ (c : Core) (h : c .running ≡ true) where
+  -- of all deeds `T` alone ends a run, and the held code is as it was
+  obeys-only : {body : List ℕ} {o : Obeyed} → Obeys body c o → o .core .running ≡ false
+      → (bodyOf body ≡ Body.Immediate Terminate) × (o .core .code ≡ c .code)
   unfolding ended
-  kind-only (Body.Refused f) body = λ q. clash h q
-  kind-only Body.Empty body = λ q. clash h q
-  kind-only (Body.Immediate Terminate) body = λ q. (refl, cases (λ (d : Core). d .code ≡ c .code) (c .running) (λ r. refl) (λ r. refl))
-  kind-only (Body.Immediate Status) body = λ q. clash h q
-  kind-only (Body.Immediate CurrentText) body = λ q. clash h q
-  kind-only (Body.Immediate Position) body = λ q. clash h q
-  kind-only (Body.Immediate Speed) body = λ q. clash h q
-  kind-only (Body.Immediate Sample) body = λ q. clash h q
-  kind-only (Body.Immediate StepSize) body = λ q. clash h q
-  kind-only (Body.Immediate Correction) body = λ q. clash h q
-  kind-only (Body.Immediate Clear) body = λ q. clash h q
-  kind-only Body.Run body =
-      cases (OnlyT Body.Run) (c .running)
-      (λ r. cases (OnlyT Body.Run) (waitsInput (c .motor .wait)) (λ w q. clash h q) (λ w q. clash h q)) (λ r. clash h r)
-  kind-only Body.Again body = cases (OnlyT Body.Again) (c .running) (λ r q. clash h q) (λ r. clash h r)
-  kind-only Body.Line body = cases (OnlyT Body.Line) (c .running) (λ r q. clash h q) (λ r. clash h r)
+  obeys-only (refuses k l) q = clash h q
+  obeys-only (tells t l) q = clash h q
+  obeys-only (stores slot at n i l) q = clash h q
+  obeys-only clears q = clash h q
+  obeys-only (stops e r) q = (e, refl)
+  obeys-only resumes q = clash h q
+  obeys-only (again r) q = clash h r
+  obeys-only (loads run n r l) q = clash h r
 
-  -- a frame that ends the run has the body `T`, and each such frame ends it, the held code as it was
-  frame-only : (r : Receiver) → frameObeyed r c text .core .running ≡ false → IsT r × (frameObeyed r c text .core .code ≡ c .code)
-  unfolding frameObeyed bodyObeyed
-  frame-only r =
-      cases (λ (o : Obeyed). o .core .running ≡ false → IsT r × (o .core .code ≡ c .code)) (tooLong r) (λ q e. clash h e)
-      (λ q e. let k = kind-only (bodyOf (bodyIn r)) (bodyIn r) e in ((q, k .0), k .1))
-
-  frame-ends : (r : Receiver) → IsT r → (frameObeyed r c text .core .running ≡ false) × (frameObeyed r c text .core .code ≡ c .code)
-  unfolding frameObeyed bodyObeyed ended
-  frame-ends r t = rw (t .0, t .1, h) (refl, refl)
+  -- each body `T` ends it, the held code as it was
+  body-ends : (body : List ℕ) → bodyOf body ≡ Body.Immediate Terminate → (bodyObeyed body c .core .running ≡ false) × (bodyObeyed body c .core .code ≡ c .code)
+  unfolding bodyObeyed ended
+  body-ends body t = rw (t, h) (refl, refl)
 
 -- ---- each call
 
@@ -80,16 +58,18 @@ module _ (u : Drive) (h : SoundUnit u) (run : u .core .running ≡ true) where
   feed-only bytes image buffer =
       feed-cases u bytes image buffer (λ (text : List ℕ) (c : Core). c .running ≡ false → Cause u (Feed bytes image buffer) (c .code))
       (λ q. clash run q)
-      (λ d q. let k = frame-only (u .core) (u .text) run (receivedBy u bytes .receiver) q in
-      rw (k .1 ∙ h .code-0 run)
-      (terminate (record { buffer-right = d .buffer-right; image-right = d .image-right; frame-ours = d .frame-ours; not-long = k .0 .0; is-T = k .0 .1 })))
+      (λ d q. let g = receivedBy u bytes in
+      let f = framed (g .frame) (bodyIn (g .receiver)) (u .core) (d .frame-ours) in
+      let k = obeys-only (u .core) run (body-does (bodyIn (g .receiver)) (u .core)) (rw f at q) in
+      rw (f, k .1 ∙ h .code-0 run)
+      (terminate (record { buffer-right = d .buffer-right; image-right = d .image-right; frame-ours = d .frame-ours; is-T = k .0 })))
 
   -- a run that a turn ends has had another cause: it cannot have gone astray
   turn-caused : (sample ms steps : ℕ) (image : List ℕ) → after (Turn sample ms steps image) u .core .running ≡ false
       → Cause u (Turn sample ms steps image) (after (Turn sample ms steps image) u .core .code)
   turn-caused sample ms steps image =
       turn-cases u sample ms steps image
-      (λ (r : TurnedUnit). r .unit .core .running ≡ false → Cause u (Turn sample ms steps image) (r .unit .core .code))
+      (λ (r : Turning). r .unit .core .running ≡ false → Cause u (Turn sample ms steps image) (r .unit .core .code))
       (λ a q. clash run q) (λ m q. go m (turn-only sample ms steps (u .text) image (u .core) run q))
     where
       go : {k : ℕ} → Made u sample steps image → EndedBy sample steps (textOf u) image (u .core) k → Cause u (Turn sample ms steps image) k
@@ -104,8 +84,9 @@ module _ (u : Drive) (h : SoundUnit u) (run : u .core .running ≡ true) where
   cause-ends : (c : Call) (k : ℕ) → Cause u c k → (after c u .core .running ≡ false) × (after c u .core .code ≡ k)
   cause-ends c k (terminate {bytes} {image} {buffer} t) =
       let d = feed-done u bytes image buffer (record { buffer-right = t .buffer-right; image-right = t .image-right; frame-ours = t .frame-ours }) in
-      let e = frame-ends (u .core) (u .text) run (receivedBy u bytes .receiver) (t .not-long, t .is-T) in
-      rw d (e .0, e .1 ∙ h .code-0 run)
+      let g = receivedBy u bytes in
+      let e = body-ends (u .core) run (bodyIn (g .receiver)) (t .is-T) in
+      rw (d, framed (g .frame) (bodyIn (g .receiver)) (u .core) (t .frame-ours)) (e .0, e .1 ∙ h .code-0 run)
   cause-ends c k (inTurn {sample} {ms} {steps} {image = image} m e) =
       subst (λ (v : Drive). (v .core .running ≡ false) × (v .core .code ≡ k)) (sym (turn-made u sample ms steps image m))
       (turn-each sample ms steps (u .text) image (u .core) k e run)

@@ -1,169 +1,108 @@
--- What a unit tells fits its packet: settings, sample and code stay small through every call, and the text has its 256 bytes.
+-- What a unit tells fits its packet: settings, sample and code stay small, and the text has its 256 bytes. No deed takes it away.
 -- Assumes nothing.
 use Prim.Native.Nat.{ℕ, _≤_, _<_}
 use mathlib.Core.Path.{_≡_, refl}
-use mathlib.Core.List.{List}
-use mathlib.Core.Bool.{true, false, and-eq-true-iff}
+use mathlib.Core.List.{List, []}
 use native.Mathlib.Omega.{arith}
-use lib.ListN.{length, take}
-use lib.Dec.{leb}
-use borrow.Author.Tests.{leb-true}
-use Rattle.parts.proofs.Laws.{cases}
+use lib.ListN.{length, take, length-take}
+use Rattle.parts.specs.Parts.{paddedText}
+use Rattle.parts.proofs.Laws.{cases, length-padded}
 use Rattle.digits.specs.Operand.{widest}
-use Rattle.commands.specs.declared.Command.{Command}
-use Rattle.commands.specs.declared.Command.the-variants.{LoopBegin, LoopEnd, Skip, Jump, Plain}
-use Rattle.commands.specs.declared.Act.{Act}
-use Rattle.commands.specs.declared.Act.the-variants.{MoveTo, MoveUp, MoveDown, SetPosition, Home, TopSpeed, Acceleration, FlagLevel, Turned, MoveCurrent, HoldCurrent, StepSize, Correction, Outputs, Baud, Delay, WaitInput}
-use Rattle.commands.specs.declared.Exponent.{Exponent}
-use Rattle.commands.specs.declared.Exponent.the-variants.{Power, NoPower}
-use Rattle.commands.specs.declared.Read.{Read}
-use Rattle.commands.specs.declared.Read.the-variants.{At, Bad, End}
-use Rattle.commands.specs.Table.{table, find, asksOf, within, exponentOf}
-use Rattle.commands.specs.Reading.{readAt}
-use Rattle.commands.specs.Writing.{inRange}
-use Rattle.commands.proofs.TableLaws.{exponent-most}
-use Rattle.commands.proofs.WritingLaws.{spells-as}
-use Rattle.image.specs.Image.{slotGood}
-use Rattle.flow.specs.declared.Flow.{Flow}
-use Rattle.flow.specs.declared.Flowed.{Flowed}
-use Rattle.flow.specs.Flow.{gone, loopBegun, loopEnded}
+use Rattle.lines.specs.Texts.{mostBytes}
+use Rattle.image.specs.Image.{slotText}
 use Rattle.motor.specs.declared.Wait.{Wait}
 use Rattle.motor.specs.declared.Motor.{Motor}
-use Rattle.motor.specs.declared.Moved.{Moved}
-use Rattle.motor.specs.declared.Moved.the-variants.{Goes, Stops}
-use Rattle.motor.specs.Inputs.{levelThere}
-use Rattle.motor.specs.Motion.{waiting, reported, answered, relative, absolute, ifKnown, homed, delayed, held, served, placedAt}
+use Rattle.motor.specs.Motion.{fresh, reported, abandoned, stopped}
 use Rattle.turns.specs.declared.Settings.{Settings}
 use Rattle.turns.specs.declared.Core.{Core}
 use Rattle.turns.specs.declared.Stepped.{Stepped}
-use Rattle.turns.specs.Settings.{withSpeed, withAcceleration, withFlag, withTurned, withMoveCurrent, withHoldCurrent, withCorrection, withOutputs, withBaud, exponentKept}
-use Rattle.turns.specs.Turns.{withFlow, withMotor, withSettings, ended, astray, moved, acted, flowed, skipped, jumped, skipTaken, commandTaken, readTaken, isFree, running, stepOf, turnCore}
+use Rattle.turns.specs.Settings.{defaults}
+use Rattle.turns.specs.Turns.{freshCore, started, ended, textAfter}
+use Rattle.obeying.specs.declared.Obeyed.{Obeyed}
+use Rattle.obeying.specs.Obeying.{loadedAs, textWritten}
+use Rattle.drive.specs.Unit.{Drive}
 use Rattle.drive.specs.Calls.{mostSample}
-use Rattle.runs.proofs.KeepLaws.{codeValues, Keeps, stopped-keeps, relative-keeps, absolute-keeps, known-keeps, served-keeps}
+use Rattle.motor.specs.Deeds.{Goes-on, same, waits, less, places}
+use Rattle.keeping.specs.Deeds.{Sets, none, speed, exponent, correction, other, Does, goes, ends, Steps, keeps-text, enters-text}
+use Rattle.motor.specs.Deeds.{codeValues}
+use Rattle.obeying.specs.Deeds.{Obeys, refuses, tells, stores, clears, stops, resumes, again, loads}
+use Rattle.keeping.specs.Kept.{Kept}
 
--- what is told of a core: `?2`, `?7`, `?6`, `?4`, and the held code
-pub record Fit (c : Core) : Type 0 where
-  pub speed : c .settings .speed ≤ widest
-  pub correction : c .settings .correction ≤ widest
-  pub exponent : c .settings .exponent ≤ 8
-  pub sample : c .motor .sample ≤ mostSample
-  pub code : c .code < codeValues
+-- of the settings those that are told: `?2`, `?7`, `?6`
+abbrev pub FitSettings : Settings → Type 0
+FitSettings s = record { speed : s .speed ≤ widest; correction : s .correction ≤ widest; exponent : s .exponent ≤ 8 }
 
--- ---- a plain command
+-- what is told of a core: `?4` and the held code too
+abbrev pub Fit : Core → Type 0
+Fit c = record { settings : FitSettings (c .settings); sample : c .motor .sample ≤ mostSample; code : c .code < codeValues }
 
--- "`V`: 1 to 16777216", "`o`: 1400 to 1650"
-speed-most : (n : ℕ) → inRange (Plain (TopSpeed n)) ≡ true → n ≤ widest
-unfolding inRange asksOf find table within
-speed-most n e = omega (arith, leb-true n 16777216 (and-eq-true-iff (leb 1 n) (leb n 16777216) .0 e .1))
+-- and the 256 bytes of a text
+abbrev pub FitIn : List ℕ → Core → Type 0
+FitIn text c = Fit c × (length text ≡ mostBytes)
 
-correction-most : (n : ℕ) → inRange (Plain (Correction n)) ≡ true → n ≤ widest
-unfolding inRange asksOf find table within
-correction-most n e = omega (arith, leb-true n 1650 (and-eq-true-iff (leb 1400 n) (leb n 1650) .0 e .1))
+abbrev pub FitUnit : Drive → Type 0
+FitUnit u = FitIn (u .text) (u .core)
 
-module _ (c : Core) (h : Fit c) where
-  pub ended-fit : (k : ℕ) → k < codeValues → Fit (ended k c)
-  unfolding ended
-  ended-fit k l = record { speed = h .speed; correction = h .correction; exponent = h .exponent; sample = rw (stopped-keeps (c .motor)) (h .sample); code = l }
+padded-bytes : (t : List ℕ) → length (paddedText t) ≡ mostBytes
+padded-bytes t = length-padded 256 (take 256 t) (omega (arith, length-take 256 t))
 
-  -- flow, motor or settings changed
-  pub flow-fit : (f : Flow) → Fit (withFlow f c)
-  flow-fit f = record { speed = h .speed; correction = h .correction; exponent = h .exponent; sample = h .sample; code = h .code }
+-- "Defaults: V 305175, .. o 1500, .. last sample 15"
+fresh-fit : Fit freshCore
+unfolding freshCore defaults fresh
+fresh-fit = record { settings = record { speed = omega arith; correction = omega arith; exponent = omega arith }; sample = omega arith; code = omega arith }
 
-  pub motor-fit : (m : Motor) → m .sample ≡ c .motor .sample → Fit (withMotor m c)
-  motor-fit m e = record { speed = h .speed; correction = h .correction; exponent = h .exponent; sample = rw e (h .sample); code = h .code }
+-- ---- the deeds
 
-  set-fit : (s : Settings) → s .speed ≤ widest → s .correction ≤ widest → s .exponent ≤ 8 → Fit (withSettings s c)
-  set-fit s v o j = record { speed = v; correction = o; exponent = j; sample = h .sample; code = h .code }
+settings-fit : {s r : Settings} → FitSettings s → Sets s r → FitSettings r
+settings-fit f none = f
+settings-fit f (speed n l) = record { speed = omega arith; correction = f .correction; exponent = f .exponent }
+settings-fit f (exponent e l) = record { speed = f .speed; correction = f .correction; exponent = l }
+settings-fit f (correction n l) = record { speed = f .speed; correction = omega arith; exponent = f .exponent }
+settings-fit f (other l k t m h p b) = f
 
-  moved-fit : (r : Moved) → Keeps (c .motor .sample) r → Fit (moved r c)
-  moved-fit (Goes m) k = motor-fit m k
-  moved-fit (Stops k) l = ended-fit k l
+-- the sample stays that of the turn
+sample-same : {steps : ℕ} {m n : Motor} → Goes-on steps m n → n .sample ≡ m .sample
+sample-same (same e) = refl
+sample-same (waits w r) = refl
+sample-same (less up left e) = refl
+sample-same (places p l) = refl
 
-  -- `A`, `P` or `D`
-  go-fit : (r : Moved) → Keeps (c .motor .sample) r → Fit (moved (ifKnown (c .motor) r) c)
-  go-fit r k = moved-fit (ifKnown (c .motor) r) (known-keeps (c .motor) r k)
-
-  astray-fit : Fit (astray c)
-  unfolding astray
-  astray-fit = ended-fit (c .code) (h .code)
-
-  act-fit : (a : Act) → inRange (Plain a) ≡ true → Fit (acted a c)
-  unfolding acted homed delayed held
-  act-fit (MoveTo n) r = go-fit (absolute n (c .motor)) (absolute-keeps (c .motor) n)
-  act-fit (MoveUp n) r = go-fit (relative true n (c .motor)) (relative-keeps (c .motor) true n)
-  act-fit (MoveDown n) r = go-fit (relative false n (c .motor)) (relative-keeps (c .motor) false n)
-  act-fit (SetPosition n) r = motor-fit (placedAt n (c .motor)) refl
-  act-fit (Home n) r = motor-fit (homed (c .settings .flag) n (c .motor)) refl
-  act-fit (TopSpeed n) r = set-fit (withSpeed n (c .settings)) (speed-most n r) (h .correction) (h .exponent)
-  act-fit (Acceleration n) r = set-fit (withAcceleration n (c .settings)) (h .speed) (h .correction) (h .exponent)
-  act-fit (FlagLevel n) r = set-fit (withFlag n (c .settings)) (h .speed) (h .correction) (h .exponent)
-  act-fit (Turned n) r = set-fit (withTurned n (c .settings)) (h .speed) (h .correction) (h .exponent)
-  act-fit (MoveCurrent n) r = set-fit (withMoveCurrent n (c .settings)) (h .speed) (h .correction) (h .exponent)
-  act-fit (HoldCurrent n) r = set-fit (withHoldCurrent n (c .settings)) (h .speed) (h .correction) (h .exponent)
-  act-fit (StepSize n) r = kept (exponentOf n) refl
-    where
-      kept : (e : Exponent) → exponentOf n ≡ e → Fit (withSettings (exponentKept e (c .settings)) c)
-      kept (Power e) q = set-fit (exponentKept (Power e) (c .settings)) (h .speed) (h .correction) (exponent-most n e q)
-      kept NoPower q = h
-  act-fit (Correction n) r = set-fit (withCorrection n (c .settings)) (h .speed) (correction-most n r) (h .exponent)
-  act-fit (Outputs n) r = set-fit (withOutputs n (c .settings)) (h .speed) (h .correction) (h .exponent)
-  act-fit (Baud n) r = set-fit (withBaud n (c .settings)) (h .speed) (h .correction) (h .exponent)
-  act-fit (Delay n) r = motor-fit (delayed n (c .motor)) refl
-  act-fit (WaitInput n) r = motor-fit (held n (c .motor)) refl
-
-  -- ---- a command of a text
-
-  flowed-fit : (f : Flowed) → Fit (flowed f c)
-  flowed-fit f = cases Fit (f .astray) (λ q. astray-fit) (λ q. flow-fit (f .flow))
-
-  skipped-fit : (r : Read) → Fit (skipped r c)
-  skipped-fit (At d next) = flow-fit (gone next (c .flow))
-  skipped-fit (Bad f) = astray-fit
-  skipped-fit End = astray-fit
-
-module _ (t image : List ℕ) (c : Core) (h : Fit c) where
-  command-fit : (d : Command) (next : ℕ) → inRange d ≡ true → Fit (commandTaken d next t image c .core)
-  unfolding commandTaken skipTaken jumped
-  command-fit LoopBegin next r = flowed-fit c h (loopBegun next (c .flow))
-  command-fit (LoopEnd n) next r = flowed-fit c h (loopEnded n next (c .flow))
-  command-fit (Skip digits) next r =
-      cases Fit (levelThere digits (c .motor .sample)) (λ l. skipped-fit c h (readAt t next)) (λ l. flow-fit c h (gone next (c .flow)))
-  command-fit (Jump slot) next r =
-      cases (λ (s : Stepped). Fit (s .core)) (slotGood image slot) (λ q. flow-fit c h _) (λ q. ended-fit c h 1 (omega arith))
-  command-fit (Plain a) next r = act-fit (withFlow (gone next (c .flow)) c) (flow-fit c h (gone next (c .flow))) a r
-
-  -- a command that is read is in range
-  read-fit : (r : Read) → readAt t (c .flow .at) ≡ r → Fit (readTaken r t image c .core)
-  unfolding readTaken
-  read-fit (At d next) e = command-fit d next (spells-as t (c .flow .at) d next e .in-range)
-  read-fit (Bad f) e = astray-fit c h
-  read-fit End e = ended-fit c h (c .code) (h .code)
-
-  running-fit : (before ms steps : ℕ) → Fit (running before ms steps t image c .core)
-  unfolding running
-  running-fit before ms steps =
-      cases (λ (s : Stepped). Fit (s .core)) (isFree (c .motor .wait)) (λ w. read-fit (readAt t (c .flow .at)) refl)
-      (λ w. moved-fit c h (served (c .motor .wait) before (c .settings .flag) ms steps (c .motor))
-      (served-keeps (c .motor) (c .motor .wait) before (c .settings .flag) ms steps))
-
--- ---- a turn
-
-pub turn-fit : (sample ms steps : ℕ) (text image : List ℕ) (c : Core) → sample ≤ mostSample → Fit c
-    → Fit (turnCore sample ms steps text image c .core)
-unfolding turnCore stepOf reported
-turn-fit sample ms steps text image c l h = motor-fit (stepOf sample ms steps t image c .core) stepped (answered (stepOf sample ms steps t image c .core .motor)) refl
+ended-fit : (k : ℕ) (c : Core) → Fit c → k < codeValues → Fit (ended k c)
+unfolding ended stopped
+ended-fit k c h l = record { settings = h .settings; sample = rw (go (c .motor .wait)) (h .sample); code = l }
   where
-    t : List ℕ
-    t = take (c .flow .length) text
+    go : (w : Wait) → abandoned w (c .motor) .sample ≡ c .motor .sample
+    go Wait.Nothing = refl
+    go (Wait.Move up endless left) = refl
+    go (Wait.Leg away left n) = refl
+    go (Wait.Delay left) = refl
+    go (Wait.Input digits) = refl
 
-    -- the turn's sample is the last one from now on
-    d : Core
-    d = withMotor (reported sample steps (c .motor)) c
+does-fit : {steps : ℕ} {t : List ℕ} {c d : Core} → Fit c → Does steps t c d → Fit d
+does-fit h (goes l m s) = record { settings = settings-fit (h .settings) s; sample = rw (sample-same m) (h .sample); code = h .code }
+does-fit h (ends k l q) = ended-fit k _ h (q (h .code))
 
-    counted : Fit d
-    counted = record { speed = h .speed; correction = h .correction; exponent = h .exponent; sample = l; code = h .code }
+obeys-fit : {body : List ℕ} (text : List ℕ) {c : Core} {o : Obeyed} → FitIn text c → Obeys body c o → FitIn (textWritten (o .write) body text) (o .core)
+unfolding started loadedAs
+obeys-fit text h (refuses k l) = h
+obeys-fit text h (tells t l) = h
+obeys-fit text h (stores slot at n i l) = h
+obeys-fit text h clears = h
+obeys-fit text {c = c} h (stops e r) = (ended-fit (c .code) c (h .0) (h .0 .code), h .1)
+obeys-fit text h resumes = h
+obeys-fit text h (again r) = (record { settings = h .0 .settings; sample = h .0 .sample; code = omega arith }, h .1)
+obeys-fit {body} text h (loads run n r l) =
+    (cases Fit run (λ q. record { settings = h .0 .settings; sample = h .0 .sample; code = omega arith }) (λ q. h .0), padded-bytes (take n body))
 
-    stepped : Fit (stepOf sample ms steps t image c .core)
-    stepped =
-        cases (λ (s : Stepped). Fit (s .core)) (c .running) (λ q. running-fit t image d counted (c .motor .sample) ms steps)
-        (λ q. motor-fit d counted (waiting Wait.Nothing (d .motor)) refl)
+steps-fit : {steps : ℕ} {t : List ℕ} (text : List ℕ) {image : List ℕ} {c : Core} {s : Stepped} → FitIn text c → Steps steps t image c s
+    → FitIn (textAfter (s .enter) text image) (s .core)
+steps-fit text h (keeps-text d) = (does-fit (h .0) d, h .1)
+steps-fit text {image} h (enters-text slot e) = (h .0, padded-bytes (slotText image slot))
+
+pub fit-kept : Kept FitIn
+unfolding reported
+fit-kept = record {
+  fresh = (fresh-fit, padded-bytes []);
+  obeys = λ {body} {text} h d. obeys-fit text h d;
+  turns = λ {sample} {steps} {text} h l r d. steps-fit text (record { settings = h .0 .settings; sample = l; code = h .0 .code }, h .1) d;
+}

@@ -1,35 +1,96 @@
--- A started unit is one that code can hold, and every byte and every turn keeps it so; what answers it fits the shortest buffer.
--- Assumes nothing.
-use Prim.Native.Nat.{ℕ, _≤_}
+-- A started unit is one that code can hold, and every byte and every turn keeps it so: no deed takes it away. What answers it fits the
+-- shortest buffer. Assumes nothing.
+use Prim.Native.Nat.{ℕ, _≤_, min}
+use native.Mathlib.Nat.{pow-le-pow-right}
 use native.Mathlib.Omega.{arith}
+use mathlib.Core.Path.{_≡_, refl}
+use mathlib.Core.Bool.{Bool, true, false}
 use mathlib.Core.List.{List, [], _∷_}
-use lib.Dec.{ltb}
-use lib.ListN.{length}
-use borrow.Author.Tests.{ltb-false}
-use Rattle.parts.proofs.Laws.{cases}
+use lib.ListN.{length, take, length-append, length-take}
+use Rattle.parts.specs.Parts.{paddedText}
+use Rattle.parts.proofs.Laws.{cases, length-padded}
 use Rattle.digits.specs.Operand.{widest}
-use Rattle.answers.specs.Packet.{mostData, packetBytes}
-use Rattle.image.specs.Image.{rightLength, slots, slotsGood, slotText}
-use Rattle.frames.specs.Addresses.{isUnit}
+use Rattle.digits.proofs.Writing.{length-most}
+use Rattle.answers.specs.Packet.{packet, tail, mostData, packetBytes}
+use Rattle.image.specs.Image.{slotText}
 use Rattle.frames.specs.declared.Frame.{Frame}
-use Rattle.frames.specs.declared.Receiver.{Receiver}
-use Rattle.motor.specs.Motion.{fresh}
-use Rattle.turns.specs.declared.Enter.{Enter}
-use Rattle.turns.specs.declared.Enter.the-variants.{Stay, Into}
+use Rattle.frames.specs.Receive.{Received, bodyIn}
+use Rattle.motor.specs.declared.Wait.{Wait}
+use Rattle.motor.specs.declared.Motor.{Motor}
+use Rattle.motor.specs.Motion.{fresh, room, counted, reported, abandoned, stopped}
+use Rattle.turns.specs.declared.Core.{Core}
+use Rattle.turns.specs.declared.Settings.{Settings}
+use Rattle.turns.specs.declared.Stepped.{Stepped}
 use Rattle.turns.specs.Settings.{defaults}
-use Rattle.turns.specs.Turns.{freshCore, turnCore, textAfter}
-use Rattle.drive.specs.declared.Drive.{Drive}
-use Rattle.drive.specs.declared.StartedUnit.{StartedUnit}
-use Rattle.drive.specs.declared.TurnedUnit.{TurnedUnit}
-use Rattle.drive.specs.Calls.{begunWith, freshUnit, noUnit, startOf, receivedBy, mostSample, turnOf}
-use Rattle.stream.specs.Steps.{State, Outcome, Quiet, Unanswered, Answer, stepped, obeyedIn, received, byteStep, walkOf}
+use Rattle.turns.specs.Turns.{freshCore, withMotor, started, ended, textAfter}
+use Rattle.obeying.specs.declared.Tell.{Tell}
+use Rattle.obeying.specs.declared.Obeyed.{Obeyed}
+use Rattle.obeying.specs.Obeying.{stepSize, dataOf, loadedAs, textWritten}
+use Rattle.drive.specs.Unit.{Drive}
+use Rattle.drive.proofs.FeedLaws.{frame-does}
+use Rattle.drive.specs.Calls.{freshUnit, receivedBy, receivedObeyed, textThen, answerTo, turnOf}
+use Rattle.motor.specs.Deeds.{Goes-on, same, waits, less, places}
+use Rattle.keeping.specs.Deeds.{Sets, none, speed, exponent, correction, other, Does, goes, ends, Steps, keeps-text, enters-text}
+use Rattle.obeying.specs.Deeds.{Tells, nothingTold, textTold, positionTold, speedTold, sampleTold, stepSizeTold, correctionTold}
+use Rattle.obeying.specs.Deeds.{Obeys, refuses, tells, stores, clears, stops, resumes, again, loads}
+use Rattle.keeping.specs.Kept.{Kept, CallsKeep}
+use Rattle.keeping.proofs.CallLaws.{calls-keep}
+use Rattle.stream.specs.Steps.{State, Outcome, Quiet, Unanswered, Answer, outcomeOf, answerIn, stepped, received, byteStep, walkOf}
 use Rattle.stream.specs.Courses.{Event, Byte, Turn, course, afterTurn}
-use Rattle.stream.specs.Fits.{FitsCore, Fits}
+use Rattle.stream.specs.Fits.{FitsMotor, FitsSettings, FitsCore, Fits}
 use Rattle.stream.proofs.WalkLaws.{walk-is}
-use Rattle.stream.proofs.ObeyLaws.{FitsObeyed, padded-fits, started-fits, frame-fits, answer-fits}
-use Rattle.stream.proofs.TurnLaws.{turned-fits}
 
--- ---- a start
+-- ---- the deeds
+
+-- a position is not counted out of the range, and one that stands out of it is not counted up
+counted-fits : (up : Bool) (p steps : ℕ) → p ≤ widest → counted up p steps ≤ widest
+unfolding counted room
+counted-fits true p steps h = omega arith
+counted-fits false p steps h = omega arith
+
+reported-fits : (sample steps : ℕ) (m : Motor) → sample ≤ widest → FitsMotor m → FitsMotor (reported sample steps m)
+unfolding reported
+reported-fits sample steps m h f = record {
+  position = cases (λ (p : ℕ). p ≤ widest) (m .last .counts) (λ e. counted-fits (m .last .up) (m .position) steps (f .position)) (λ e. f .position);
+  sample = h;
+}
+
+motor-fits : {steps : ℕ} {m n : Motor} → FitsMotor m → Goes-on steps m n → FitsMotor n
+motor-fits f (same e) = f
+motor-fits f (waits w r) = f
+motor-fits f (less up left e) = f
+motor-fits f (places p l) = record { position = omega arith; sample = f .sample }
+
+settings-fit : {s r : Settings} → FitsSettings s → Sets s r → FitsSettings r
+settings-fit f none = f
+settings-fit f (speed n l) = record { speed = omega arith; correction = f .correction }
+settings-fit f (exponent e l) = f
+settings-fit f (correction n l) = record { speed = f .speed; correction = omega arith }
+settings-fit f (other l k t m h p b) = f
+
+-- a run's stop leaves the position and the sample
+ended-fits : (code : ℕ) (c : Core) → FitsCore c → FitsCore (ended code c)
+unfolding ended stopped
+ended-fits code c f = record { motor = go (c .motor .wait); settings = f .settings }
+  where
+    go : (w : Wait) → FitsMotor (abandoned w (c .motor))
+    go Wait.Nothing = f .motor
+    go (Wait.Move up endless left) = f .motor
+    go (Wait.Leg away left n) = f .motor
+    go (Wait.Delay left) = f .motor
+    go (Wait.Input digits) = f .motor
+
+does-fits : {steps : ℕ} {t : List ℕ} {c d : Core} → FitsCore c → Does steps t c d → FitsCore d
+does-fits f (goes l m s) = record { motor = motor-fits (f .motor) m; settings = settings-fit (f .settings) s }
+does-fits f (ends k l h) = ended-fits k _ f
+
+-- ---- no call takes it away
+
+abbrev FitsIn : List ℕ → Core → Type 0
+FitsIn text c = record { text : length text ≤ mostData; core : FitsCore c }
+
+padded-fits : (t : List ℕ) → length (paddedText t) ≤ mostData
+padded-fits t = let n : length (take 256 t) ≤ 256 = simp length-take (omega arith) in omega (arith, length-padded 256 (take 256 t) n)
 
 fresh-fits : FitsCore freshCore
 unfolding freshCore fresh defaults
@@ -38,28 +99,80 @@ fresh-fits = record {
   settings = record { speed = omega arith; correction = omega arith };
 }
 
-begun-fits : (n : ℕ) → FitsCore (begunWith n)
-begun-fits n = cases FitsCore (ltb 0 n) (λ e. started-fits n freshCore fresh-fits) (λ e. fresh-fits)
+obeys-fits : {body : List ℕ} (text : List ℕ) {c : Core} {o : Obeyed} → FitsIn text c → Obeys body c o → FitsIn (textWritten (o .write) body text) (o .core)
+unfolding started loadedAs
+obeys-fits text f (refuses k l) = f
+obeys-fits text f (tells t l) = f
+obeys-fits text f (stores slot at n i l) = f
+obeys-fits text f clears = f
+obeys-fits text f (stops e r) = record { text = f .text; core = ended-fits _ _ (f .core) }
+obeys-fits text f resumes = f
+obeys-fits text f (again r) = f
+obeys-fits {body} text f (loads run n r l) = record { text = padded-fits (take n body); core = cases FitsCore run (λ q. f .core) (λ q. f .core) }
 
-no-unit-fits : Fits noUnit
-unfolding noUnit
-no-unit-fits = record { text = padded-fits []; core = fresh-fits }
+steps-fits : {steps : ℕ} {t : List ℕ} (text : List ℕ) {image : List ℕ} {c : Core} {s : Stepped} → FitsIn text c → Steps steps t image c s
+    → FitsIn (textAfter (s .enter) text image) (s .core)
+steps-fits text f (keeps-text d) = record { text = f .text; core = does-fits (f .core) d }
+steps-fits text {image} f (enters-text slot e) = record { text = padded-fits (slotText image slot); core = f .core }
 
-fresh-unit-fits : (number : ℕ) (image : List ℕ) → Fits (freshUnit number image)
-unfolding freshUnit
-fresh-unit-fits number image = record { text = padded-fits (slotText image 0); core = begun-fits (length (slotText image 0)) }
+fits-kept : Kept FitsIn
+fits-kept = record {
+  fresh = record { text = padded-fits []; core = fresh-fits };
+  obeys = λ {body} {text} h d. obeys-fits text h d;
+  turns = λ {sample} {steps} {text} {image} {c} f l r d. steps-fits text
+      (record { text = f .text; core = record { motor = reported-fits sample steps (c .motor) (omega arith) (f .core .motor); settings = f .core .settings } }) d;
+}
 
-abbrev FitsStarted : StartedUnit → Type 0
-FitsStarted r = Fits (r .unit)
+pub start-fits : (number : ℕ) (image body : List ℕ) → Fits (freshUnit number image body)
+start-fits = calls-keep fits-kept .starts
 
-pub start-fits : (number : ℕ) (image : List ℕ) → Fits (startOf number image .unit)
-unfolding startOf
-start-fits number image =
-    cases FitsStarted (isUnit number)
-    (λ a. cases FitsStarted (rightLength image)
-    (λ b. cases FitsStarted (slotsGood image slots) (λ e. fresh-unit-fits number image) (λ e. no-unit-fits))
-    (λ b. no-unit-fits))
-    (λ a. no-unit-fits)
+pub turn-fits : (u : Drive) (sample ms steps : ℕ) (image : List ℕ) → Fits u → Fits (turnOf u sample ms steps image .unit)
+turn-fits = calls-keep fits-kept .turns
+
+-- ---- what is told: no longer than a packet may be
+
+-- a number that is told is of 32 bits at most
+abbrev FitsTell : Tell → Type 0
+FitsTell Tell.Nothing = Unit
+FitsTell (Tell.Number k) = k ≤ widest
+FitsTell Tell.Text = Unit
+
+-- 2 to the 8 at most
+step-size-fits : (e : ℕ) → stepSize e ≤ widest
+unfolding stepSize
+step-size-fits e = let h : min e 8 ≤ 8 = omega arith in omega (arith, pow-le-pow-right {n = 2} (omega arith) h)
+
+tells-fits : {c : Core} {t : Tell} → FitsCore c → Tells c t → FitsTell t
+tells-fits f nothingTold = tt
+tells-fits f textTold = tt
+tells-fits f positionTold = f .motor .position
+tells-fits f speedTold = f .settings .speed
+tells-fits f sampleTold = f .motor .sample
+tells-fits {c} f stepSizeTold = step-size-fits (c .settings .exponent)
+tells-fits f correctionTold = f .settings .correction
+
+told-fits : {body : List ℕ} {c : Core} {o : Obeyed} → FitsCore c → Obeys body c o → FitsTell (o .tell)
+told-fits f (refuses k l) = tt
+told-fits f (tells t l) = tells-fits f l
+told-fits f (stores slot at n i l) = tt
+told-fits f clears = tt
+told-fits f (stops e r) = tt
+told-fits f resumes = tt
+told-fits f (again r) = tt
+told-fits f (loads run n r l) = tt
+
+data-fits : (t : Tell) (n : ℕ) (text : List ℕ) → FitsTell t → length text ≤ mostData → length (dataOf t n text) ≤ mostData
+data-fits Tell.Nothing n text f h = omega arith
+data-fits (Tell.Number k) n text f h = omega (arith, length-most 10 k (omega arith) (omega arith))
+data-fits Tell.Text n text f h = simp length-take (omega arith)
+
+answer-fits : (o : Obeyed) (text : List ℕ) → length text ≤ mostData → FitsTell (o .tell)
+    → (1 ≤ length (answerTo o text)) × (length (answerTo o text) ≤ packetBytes)
+unfolding answerTo packet
+answer-fits o text h f =
+    let d = dataOf (o .tell) (o .core .flow .length) text in
+    let n : length d ≤ mostData = data-fits (o .tell) (o .core .flow .length) text f h in
+    (omega arith, omega (arith, length-append d tail))
 
 -- ---- a byte
 
@@ -70,51 +183,27 @@ FitsOutcome Unanswered = Unit
 FitsOutcome (Answer answer) = (1 ≤ length answer) × (length answer ≤ packetBytes)
 
 module _ (s : State) (f : Fits (s .unit)) where
-  obeyed-fits : (r : Receiver) → FitsObeyed (obeyedIn r s)
-  obeyed-fits r = frame-fits (s .unit .core) (s .unit .text) (f .core) (f .text) r
+  stepped-fits : (r : Received) → Fits (stepped r s .state .unit)
+  stepped-fits r = obeys-fits (s .unit .text) f (frame-does (r .frame) (bodyIn (r .receiver)) (s .unit .core))
 
-  stepped-fits : (k : Frame) (r : Receiver) → Fits (stepped k r s .state .unit)
-  stepped-fits Frame.Nothing r = f
-  stepped-fits Frame.Alone r = record { text = obeyed-fits r .text; core = obeyed-fits r .core }
-  stepped-fits Frame.Group r = record { text = obeyed-fits r .text; core = obeyed-fits r .core }
-
-  outcome-fits : (k : Frame) (r : Receiver) → FitsOutcome (stepped k r s .outcome)
-  outcome-fits Frame.Nothing r = tt
-  outcome-fits Frame.Alone r = answer-fits (obeyedIn r s) (obeyed-fits r)
-  outcome-fits Frame.Group r = tt
+  outcome-fits : (r : Received) → FitsOutcome (stepped r s .outcome)
+  outcome-fits r = go (r .frame) refl
+    where
+      go : (k : Frame) → r .frame ≡ k → FitsOutcome (outcomeOf (r .frame) (answerIn r s))
+      go Frame.Nothing e = rw e tt
+      go Frame.Alone e =
+          let o = receivedObeyed r (s .unit .core) in
+          let a = answer-fits o (textThen r o (s .unit .text)) (stepped-fits r .text) (told-fits (f .core) (frame-does (r .frame) (bodyIn (r .receiver)) (s .unit .core))) in
+          rw e (rw e at a)
+      go Frame.Group e = rw e tt
 
   pub step-fits : (b : ℕ) → Fits (byteStep s b .state .unit)
   unfolding byteStep
-  step-fits b = stepped-fits (received s b .frame) (received s b .receiver)
+  step-fits b = stepped-fits (received s b)
 
   -- what a call leaves, and what it answers
   pub walk-fits : (bytes : List ℕ) → Fits (walkOf s bytes .state .unit) × FitsOutcome (walkOf s bytes .outcome)
-  walk-fits bytes =
-      let r = receivedBy (s .unit) bytes in
-      rw (walk-is s bytes) (stepped-fits (r .frame) (r .receiver), outcome-fits (r .frame) (r .receiver))
-
--- ---- a turn
-
-text-fits : (e : Enter) (text image : List ℕ) → length text ≤ mostData → length (textAfter e text image) ≤ mostData
-text-fits Stay text image h = h
-text-fits (Into slot) text image h = padded-fits (slotText image slot)
-
-abbrev FitsTurned : TurnedUnit → Type 0
-FitsTurned r = Fits (r .unit)
-
-pub turn-fits : (u : Drive) (sample ms steps : ℕ) (image : List ℕ) → Fits u → Fits (turnOf u sample ms steps image .unit)
-unfolding turnOf
-turn-fits u sample ms steps image f =
-    cases FitsTurned (rightLength image)
-    (λ a. cases FitsTurned (ltb mostSample sample) (λ b. f)
-    (λ b. cases FitsTurned (ltb (u .core .motor .last .number) steps) (λ e. f)
-    (λ e.
-    let small : sample ≤ widest = omega (arith, ltb-false mostSample sample b) in
-    record {
-      text = text-fits (turnCore sample ms steps (u .text) image (u .core) .enter) (u .text) image (f .text);
-      core = turned-fits sample ms steps (u .text) image (u .core) small (f .core);
-    })))
-    (λ a. f)
+  walk-fits bytes = let r = receivedBy (s .unit) bytes in rw (walk-is s bytes) (stepped-fits r, outcome-fits r)
 
 -- ---- all that comes
 

@@ -165,15 +165,7 @@ pub fn turn_core(c: Core, sample: u8, ms: u32, steps: u32, text: &[u8], image: &
     ensures { λ r. ⌜ r ≡ turnCore sample ms steps (now (text .entry)) (now (image .entry)) c ⌝ }
 {
     let f = c.flow;
-    let n = shorter(f.length, text.len());
-    settle(step(c, sample, ms, steps, &text[0..n], image))
-}
-
-// The lesser of two lengths.
-fn shorter(a: usize, b: usize) -> usize
-    ensures { λ r. ⌜ r ≡ min a b ⌝ }
-{
-    if a < b { a } else { b }
+    settle(step(c, sample, ms, steps, parts::first(text, f.length), image))
 }
 
 // The next motor action answered, and kept as the last one.

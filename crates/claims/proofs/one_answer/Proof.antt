@@ -5,8 +5,8 @@ use Rattle.digits.proofs.Writing.{written-once}
 use Rattle.image.proofs.CallLaws.{stored-once, cleared-once}
 use Rattle.answers.proofs.Writing.{packet-once}
 use Rattle.host.proofs.LineLaws.{line-once}
-use Rattle.obeying.proofs.KindLaws.{obeyed-once}
-use Rattle.drive.proofs.FeedLaws.{fed-once}
+use Rattle.frames.proofs.Once.{heard-once}
+use Rattle.drive.proofs.OnceLaws.{started-once, fed-once, turned-once}
 use Rattle.claims.proofs.one_answer.Statement.{statement}
 use Rattle.claims.proofs.one_answer.Tie as tie
 
@@ -19,8 +19,10 @@ returns c =
       cleared = λ image r s x y. cleared-once;
       packet = λ buffer status bytes r s x y. packet-once;
       line = λ l count buffer r s x y. line-once;
-      obeyed = λ c text body image r s x y. obeyed-once;
-      fed = fed-once;
+      heard = λ p body unit bytes r s x y. heard-once;
+      started = λ number image body text d e. started-once d e;
+      fed = λ u body text bytes image buffer d e. fed-once d e;
+      turned = λ u text sample ms steps image r s x y. turned-once u text sample ms steps image;
     }
 
 pub one-answer-spec : {M : Type 1} → statement M

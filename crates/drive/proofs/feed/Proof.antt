@@ -1,36 +1,49 @@
--- `drive::feed` meets its contract: what it hears, what that completes, what that leaves (`fed-is`). Assumes nothing.
-use mathlib.Core.Path.{refl, _∙_}
+-- `drive::feed` meets its contract: how it is answered, what it hears, and what a frame or none makes of it.
+-- Assumes nothing.
+use mathlib.Core.Path.{_≡_, sym, _∙_}
 use borrow.Author.Needs.{needs}
-use Rattle.drive.proofs.AnswerLaws.{lent}
-use Rattle.drive.proofs.FeedLaws.{heard-most, room-there, fed-is}
+use Rattle.drive.specs.declared.FeedAnswer.{FeedAnswer}
+use Rattle.drive.specs.Steps.{feedAnswer}
+use Rattle.drive.proofs.FeedLaws.{room-there, fed-refused, fed-frame, fed-heard, nothing-fed}
 use Rattle.drive.proofs.feed.Statement.{statement}
 use Rattle.drive.proofs.feed.Tie as tie
 
-part-receive-end : tie.Need-part-receive-end
-part-receive-end c = rw (c .before .heard .ensures) (heard-most (c .before .before .feed-answer .result) _)
-
-answer-completed-requires : tie.Need-answer-completed-requires
-answer-completed-requires c κs =
-    let a = c .before .before .before .before .before .before .before .before .before .before .before .before .before .before .before .before .before .before .args in
-    room-there (a .u) (a .bytes .now) (a .image .now) (a .buffer .now) (c .before .before .before .before .before .before .before .before .before .before .before .before .feed-answer .ensures) (c .before .before .before .before .before .before .before .before .receive .ensures ∙ rw (lent (c .before .before .before .before .before .before .before .before .before .before .before .heard .result) (a .bytes .now), c .before .before .before .before .before .before .before .before .before .before .before .heard .ensures))
+-- the call is taken, as soon as the first test is passed
+taken : (c : tie.After-enum-told) → let a = c .before .before .before .before .before .before .before .before .args in
+    FeedAnswer.Taken ≡ feedAnswer (a .image .now) (a .buffer .now)
+taken c = sym (c .enum-told .given .1) ∙ c .before .before .feed-answer .ensures
 
 returns : tie.Need-returns
 returns c =
-    let a = c .before .before .before .before .before .before .before .before .before .before .before .before .before .before .before .before .before .before .before .before .before .before .before .args in
-    fed-is (a .u) (a .bytes .now) (a .image .now) (a .buffer .now) (c .before .before .before .before .before .before .before .before .before .before .before .before .before .before .before .before .before .feed-answer .ensures) (c .before .before .before .before .before .before .before .before .before .before .before .before .before .receive .ensures ∙ rw (lent (c .before .before .before .before .before .before .before .before .before .before .before .before .before .before .before .before .heard .result) (a .bytes .now), c .before .before .before .before .before .before .before .before .before .before .before .before .before .before .before .before .heard .ensures)) (c .before .before .before .before .before .before .before .before .obey-completed .ensures) (c .before .before .before .before .answer-completed .ensures) refl
+    let a = c .before .before .before .before .before .before .before .before .args in
+    c .refuse-feed .ensures _ _ _ _ ∙ fed-refused _ (a .bytes .now) _ _ _ (c .before .before .feed-answer .ensures) (c .before .match .keys2)
+
+feed-frame-requires : tie.Need-feed-frame-requires
+feed-frame-requires c κs =
+    let t = c .before .before .before .before .before .before .before .before in
+    let a = t .before .before .before .before .before .before .before .before .args in
+    room-there (a .image .now) (a .buffer .now) (taken t)
+
+returns-2 : tie.Need-returns-2
+returns-2 c =
+    let h = c .before .before .before .before .before .before .before .before .before .before in
+    let t = h .before .before .before in
+    let a = t .before .before .before .before .before .before .before .before .args in
+    c .before .before .before .before .feed-frame .ensures
+    ∙ fed-frame (a .u) (a .body .now) (a .text .now) (a .bytes .now) (a .image .now) (a .buffer .now) (taken t) (h .receive .ensures) (c .before .before .before .before .before .before .before .before .before .match2 .keys2)
+
+returns-3 : tie.Need-returns-3
+returns-3 c =
+    let h = c .before .before .before in
+    let t = h .before .before .before in
+    let a = t .before .before .before .before .before .before .before .before .args in
+    rw (c .feed-nothing .ensures)
+    (nothing-fed (a .u) (h .receive .result) (h .receive .last .1 .0) (a .text .now) (a .image .now) (a .buffer .now) (c .before .enum-told2 .given .1)
+    ∙ fed-heard (a .u) (a .body .now) (a .text .now) (a .bytes .now) (a .image .now) (a .buffer .now) (taken t) (h .receive .ensures))
 
 pub feed-spec : {M : Type 1} → statement M
 feed-spec =
     tie.close
-    (tie.spec
-    (λ c κs. search needs)
-    (λ c κs. search needs)
-    (λ c. search needs)
-    (λ c. search needs)
-    part-receive-end
-    (λ c κs. search needs)
-    (λ c κs. search needs)
-    answer-completed-requires
-    (λ c. search needs)
-    (λ c. search needs)
-    returns)
+    (tie.spec (λ c κs. search needs) (λ c. search needs) (λ c κs. search needs) (λ c. search needs) (λ c. search needs) returns
+    (λ c κs. search needs) (λ c. search needs) feed-frame-requires (λ c. search needs) (λ c. search needs) returns-2
+    (λ c κs. search needs) (λ c. search needs) (λ c. search needs) returns-3)

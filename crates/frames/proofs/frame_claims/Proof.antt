@@ -2,16 +2,15 @@
 -- Assumes nothing.
 use Prim.Native.Nat.{ℕ}
 use native.Mathlib.Omega.{arith}
-use lib.ListN.{length-replicate}
-use Rattle.frames.specs.declared.Receiver.{Receiver}
 use Rattle.frames.specs.Addresses.{unitByte}
-use Rattle.frames.specs.Receive.{longest}
+use Rattle.frames.specs.Receive.{Receiver}
 use Rattle.frames.specs.Claims.{AddressClaims, ReceiveClaims}
 use Rattle.frames.proofs.Steps.{skipped}
 use Rattle.frames.proofs.Addresses.{own, alone, in-pairs, in-fours, in-all, others, low, no-unit}
 use Rattle.frames.proofs.Stream.{cut, rest, first, outside, all-given, at-most, sound}
 use Rattle.frames.proofs.Foreign.{foreign, between}
 use Rattle.frames.proofs.Bodies.{whole}
+use Rattle.frames.proofs.Once.{heard-once}
 use Rattle.frames.proofs.frame_claims.Statement.{statement}
 use Rattle.frames.proofs.frame_claims.Tie as tie
 
@@ -49,7 +48,8 @@ returns c =
     record {
       addresses = addresses;
       receiving = receiving;
-      sound-fresh = record { full = length-replicate {A = ℕ} longest 0; within = omega arith };
+      sound-fresh = λ body e. record { full = e; within = omega arith };
+      one-answer = λ p body u bytes d e. heard-once d e;
     }
 
 pub frame-claims-spec : {M : Type 1} → statement M

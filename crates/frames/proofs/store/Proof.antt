@@ -16,12 +16,9 @@ returns : tie.Need-returns
 unfolding stored
 returns c = simp (lt-ltb _ _ (c .if1 .taken))
 
-add-t10 : tie.Need-add-t10
-add-t10 c = search needs
-
 returns-2 : tie.Need-returns-2
 unfolding stored
 returns-2 c = simp (le-ltb _ _ (c .if1 .left))
 
 pub store-spec : {M : Type 1} → statement M
-store-spec = tie.close (tie.spec element-write-body add-t8 returns add-t10 returns-2)
+store-spec = tie.close (tie.spec element-write-body add-t8 returns returns-2)

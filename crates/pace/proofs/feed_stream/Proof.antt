@@ -7,11 +7,11 @@ use Rattle.pace.proofs.feed_stream.Statement.{statement}
 use Rattle.pace.proofs.feed_stream.Tie as tie
 
 abbrev Inv-loop : tie.InvT-loop
-Inv-loop stream most image₀ buffer₀ u₀ sum₀ at₀ image buffer u sum at =
+Inv-loop stream most body₀ text₀ image₀ buffer₀ u₀ sum₀ at₀ body text image buffer u sum at =
     (at ≤ length stream) × ((length image ≡ length image₀) × (length buffer ≡ length buffer₀))
 
 abbrev μ-loop : tie.MeasureT-loop
-μ-loop stream most image₀ buffer₀ u₀ sum₀ at₀ image buffer u sum at = length stream - at
+μ-loop stream most body₀ text₀ image₀ buffer₀ u₀ sum₀ at₀ body text image buffer u sum at = length stream - at
 
 pub feed-stream-spec : {M : Type 1} → statement M
 feed-stream-spec =
@@ -29,7 +29,11 @@ feed-stream-spec =
     (λ c κs. search needs)
     (λ c κs. search needs)
     (λ c. search needs)
-    (λ c. search needs)
+    (λ c.
+    let inv = c .before .before .before .before .before .before .before .before .before .before .before .before .before .before .before .before .before .loop .inv in
+    let image = c .before .before .before .before .before .before .before .before .image .given in
+    let buffer = c .before .before .before .before .before .before .buffer .given in
+    (search needs, (search (needs, inv, image), search (needs, inv, buffer))))
     (λ c. search needs)
     (λ c. search needs)
     (λ c. search needs))

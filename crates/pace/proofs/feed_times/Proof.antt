@@ -7,11 +7,11 @@ use Rattle.pace.proofs.feed_times.Statement.{statement}
 use Rattle.pace.proofs.feed_times.Tie as tie
 
 abbrev Inv-loop : tie.InvT-loop
-Inv-loop stream most times image₀ buffer₀ now₀ counter₀ image buffer now counter =
+Inv-loop stream most times body₀ text₀ image₀ buffer₀ now₀ counter₀ body text image buffer now counter =
     (length image ≡ length image₀) × (length buffer ≡ length buffer₀)
 
 abbrev μ-loop : tie.MeasureT-loop
-μ-loop stream most times image₀ buffer₀ now₀ counter₀ image buffer now counter = times - counter
+μ-loop stream most times body₀ text₀ image₀ buffer₀ now₀ counter₀ body text image buffer now counter = times - counter
 
 pub feed-times-spec : {M : Type 1} → statement M
 feed-times-spec =

@@ -5,10 +5,10 @@ use Rattle.pace.proofs.turn_times.Statement.{statement}
 use Rattle.pace.proofs.turn_times.Tie as tie
 
 abbrev Inv-loop : tie.InvT-loop
-Inv-loop steps times image u₀ sum₀ number₀ i₀ u sum number i = Unit {0}
+Inv-loop steps times text₀ image u₀ sum₀ number₀ i₀ text u sum number i = Unit {0}
 
 abbrev μ-loop : tie.MeasureT-loop
-μ-loop steps times image u₀ sum₀ number₀ i₀ u sum number i = times - i
+μ-loop steps times text₀ image u₀ sum₀ number₀ i₀ text u sum number i = times - i
 
 pub turn-times-spec : {M : Type 1} → statement M
 turn-times-spec =

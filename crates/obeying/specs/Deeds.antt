@@ -1,0 +1,58 @@
+-- What a body can do to a unit, in a few words. 01, "Lines" and "What comes back".
+-- Assumes nothing.
+use Prim.Native.Nat.{ℕ, _+_, _≤_, _<_}
+use mathlib.Core.Path.{_≡_}
+use mathlib.Core.List.{List}
+use mathlib.Core.Bool.{Bool, true, false}
+use lib.ListN.{length, take}
+use Rattle.lines.specs.Texts.{mostBytes}
+use Rattle.lines.specs.Loops.{Checked}
+use Rattle.lines.specs.Bodies.{bodyOf}
+use Rattle.lines.specs.declared.Body.{Body}
+use Rattle.lines.specs.declared.Immediate.{Immediate}
+use Rattle.motor.specs.declared.Wait.{Wait}
+use Rattle.motor.specs.Motion.{waiting}
+use Rattle.motor.specs.Deeds.{codeValues}
+use Rattle.turns.specs.declared.Core.{Core}
+use Rattle.turns.specs.Turns.{withMotor, started, ended}
+use Rattle.obeying.specs.declared.Tell.{Tell}
+use Rattle.obeying.specs.declared.Write.{Write}
+use Rattle.obeying.specs.declared.Obeyed.{Obeyed}
+use Rattle.obeying.specs.Obeying.{stepSize, refused, telling, silent, writing, loadedFor, bodyObeyed}
+
+-- what is told: nothing, the current text, or one of five numbers
+pub data Tells (c : Core) : Tell → Type 0 where
+  nothingTold : Tells c Tell.Nothing
+  textTold : Tells c Tell.Text
+  positionTold : Tells c (Tell.Number (c .motor .position))
+  speedTold : Tells c (Tell.Number (c .settings .speed))
+  sampleTold : Tells c (Tell.Number (c .motor .sample))
+  stepSizeTold : Tells c (Tell.Number (stepSize (c .settings .exponent)))
+  correctionTold : Tells c (Tell.Number (c .settings .correction))
+
+-- the text of a line: a beginning of the body that passed the check
+pub record Loads (body : List ℕ) (n : ℕ) : Type 0 where
+  pub inside : n ≤ length body
+  pub short : length body ≤ mostBytes
+  pub checked : Checked (take n body)
+
+pub data Obeys (body : List ℕ) (c : Core) : Obeyed → Type 0 where
+  -- "A refused frame carries its own code and no data"
+  refuses : (k : ℕ) → k < codeValues → Obeys body c (refused k c)
+  tells : (tell : Tell) → Tells c tell → Obeys body c (telling tell c)
+  -- a store of what lies within the body
+  stores : (slot at n : ℕ) → at + n ≤ length body → length body ≤ mostBytes → Obeys body c (writing (Write.Store slot at n) c)
+  -- `?9`
+  clears : Obeys body c (writing Write.Clear c)
+  -- `T`
+  stops : bodyOf body ≡ Body.Immediate Immediate.Terminate → c .running ≡ true → Obeys body c (silent (ended (c .code) c))
+  -- "`R` alone ends a wait at `H`"
+  resumes : Obeys body c (silent (withMotor (waiting Wait.Nothing (c .motor)) c))
+  -- `X`, and `R` for a loaded line
+  again : c .running ≡ false → Obeys body c (silent (started (c .flow .length) c))
+  -- a line that passed the check
+  loads : (run : Bool) (n : ℕ) → c .running ≡ false → Loads body n → Obeys body c (writing (Write.Text n) (loadedFor run n c))
+
+-- a body does nothing else
+abbrev pub BodiesDo : Type 0
+BodiesDo = (body : List ℕ) (c : Core) → Obeys body c (bodyObeyed body c)

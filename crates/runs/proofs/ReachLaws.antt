@@ -1,0 +1,26 @@
+-- What no deed takes away, every unit has that a fresh start leads to. Assumes nothing.
+use mathlib.Core.List.{List}
+use Prim.Native.Nat.{ℕ}
+use Rattle.turns.specs.declared.Core.{Core}
+use Rattle.drive.specs.Unit.{Drive}
+use Rattle.keeping.specs.Kept.{Kept, Holds, CallsKeep}
+use Rattle.drive.proofs.StartLaws.{started-unit}
+use Rattle.keeping.proofs.CallLaws.{calls-keep}
+use Rattle.runs.specs.Reach.{Call, Feed, Turn, after, Reached, fresh, called}
+use Rattle.runs.proofs.SoundLaws.{SoundUnit, sound-kept}
+use Rattle.runs.proofs.FitLaws.{FitUnit, fit-kept}
+
+module _ {P : List ℕ → Core → Type 0} (k : CallsKeep P) where
+  call-keeps : (u : Drive) (c : Call) → Holds P u → Holds P (after c u)
+  call-keeps u (Feed bytes image buffer) h = k .feeds u bytes image buffer h
+  call-keeps u (Turn sample ms steps image) h = k .turns u sample ms steps image h
+
+  reached-keeps : {u : Drive} → Reached u → Holds P u
+  reached-keeps (fresh number image body text e) = rw (started-unit number image body text e) (k .starts number image body)
+  reached-keeps (called {u} c r) = call-keeps u c (reached-keeps r)
+
+pub reached-sound : {u : Drive} → Reached u → SoundUnit u
+reached-sound r = reached-keeps (calls-keep sound-kept) r
+
+pub reached-fit : {u : Drive} → Reached u → FitUnit u
+reached-fit r = reached-keeps (calls-keep fit-kept) r
