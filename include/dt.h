@@ -1,16 +1,20 @@
 /* The checks and the ramp figures of a DT drive, for firmware.
  *
- * Link libfirmware.a. Every function answers on every input and returns; none keeps or changes anything, calls the
- * system or needs a heap, so each may be called from any task at any time.
+ * Link libdt.a for your chip (docs/CHIP.md), or on x86-64 libfirmware.a. Every function answers on every input and
+ * returns; none keeps or changes anything, calls the system or needs a heap, so each may be called from any task at any
+ * time.
  *
  * A slice is a pointer and a length in bytes. A slice of length 0 is empty: its pointer is not read and may be null.
  * With a length above 0 a null pointer is forbidden, and all of the bytes must be readable. Slices may overlap: they
  * are only read.
+ *
+ * A length is a uint64_t on every processor, since it has 64 bits in the proofs and so in the code. A size_t is the same
+ * on x86-64, but on a chip of 32 bits it would link and hand over half a length: the pointer goes in r0, the length in
+ * r2 and r3.
  */
 #ifndef DT_H
 #define DT_H
 
-#include <stddef.h>
 #include <stdint.h>
 
 #ifdef __cplusplus
@@ -39,13 +43,13 @@ extern "C" {
 #define DT_RAMP_N 3u        /* N of a finite move is not 1 to 2147483647 */
 
 /* The body of a frame, without its address and its CR: DT_LINE_.. */
-uint32_t dt_check_line(const uint8_t *body, size_t length);
+uint32_t dt_check_line(const uint8_t *body, uint64_t length);
 
 /* The text of a program, without `s`, slot and `R`: DT_TEXT_.. */
-uint32_t dt_check_text(const uint8_t *text, size_t length);
+uint32_t dt_check_text(const uint8_t *text, uint64_t length);
 
 /* The image of the sixteen programs: DT_IMAGE_.. */
-uint32_t dt_check_image(const uint8_t *image, size_t length);
+uint32_t dt_check_image(const uint8_t *image, uint64_t length);
 
 /* A move of n microsteps at top speed v (microsteps per second) and acceleration l (units of 6103.5 microsteps per
  * second squared); where endless is not 0 the move has no end and n is not looked at. */
