@@ -1,7 +1,14 @@
 /* The checks and the ramp figures of a DT drive, for firmware.
  *
- * Link libfirmware.a. Every function answers on every input and returns; none keeps or changes anything, calls the
- * system or needs a heap, so each may be called from any task at any time.
+ * Every function answers on every input and returns; none keeps or changes anything, calls the system or needs a heap, so
+ * each may be called from any task at any time.
+ *
+ * The archive: `examples/run` proves the code, writes target/libdt.a and shows it at work; examples/firmware.c is to be copied.
+ * It is for x86-64 (ELF objects, the System V calling convention; the ramp's floats are in SSE registers), since Rattle's
+ * compiler makes code for that processor alone. It needs no C library and leaves no symbol undefined: it links with -nostdlib.
+ * The deepest call takes 224 bytes of stack (docs/SPEED.md says how that was read off). C and C++ may include this header.
+ *
+ * What the numbers mean is said in docs/MANUAL.md.
  *
  * A slice is a pointer and a length in bytes. A slice of length 0 is empty: its pointer is not read and may be null.
  * With a length above 0 a null pointer is forbidden, and all of the bytes must be readable. Slices may overlap: they
