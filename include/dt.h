@@ -1,8 +1,15 @@
 /* The checks and the ramp figures of a DT drive, for firmware.
  *
- * Link libdt.a for your chip (docs/CHIP.md), or on x86-64 libfirmware.a. Every function answers on every input and
- * returns; none keeps or changes anything, calls the system or needs a heap, so each may be called from any task at any
- * time.
+ * Every function answers on every input and returns; none keeps or changes anything, calls the system or needs a heap, so
+ * each may be called from any task at any time.
+ *
+ * The archive: for a Cortex-M, `chip/dist` writes target/dist/ with a libdt.a for each chip (docs/CHIP.md says how to link it,
+ * and its stack). For x86-64 (ELF objects, the System V calling convention), `examples/run` proves the code, writes
+ * target/libdt.a and shows it at work; examples/firmware.c is to be copied. The one for x86-64 needs no C library and leaves no
+ * symbol undefined: it links with -nostdlib, and its deepest call takes 224 bytes of stack (docs/SPEED.md says how that was
+ * read off). C and C++ may include this header.
+ *
+ * What the numbers mean is said in docs/MANUAL.md.
  *
  * A slice is a pointer and a length in bytes. A slice of length 0 is empty: its pointer is not read and may be null.
  * With a length above 0 a null pointer is forbidden, and all of the bytes must be readable. Slices may overlap: they
