@@ -1,7 +1,7 @@
 -- Laws of powers of ten taken away: digit d of n at a power p has p * d ≤ n < p * (d + 1), and the digits so taken, from the highest on,
 -- are the number in decimal. Assumes nothing.
 use Prim.Native.Nat.{ℕ, zero, suc, _+_, _-_, _*_, _/_, _%_, _^_, _≤_, _<_}
-use mathlib.Core.Path.{_≡_, refl, sym, ap, _∙_, subst⁻¹}
+use mathlib.Core.Path.{_≡_, sym, ap, _∙_, subst⁻¹}
 use mathlib.Core.List.{List, [], _∷_, _++_, append-nil}
 use mathlib.Core.Bool.{cond}
 use native.Mathlib.Omega.{arith}
@@ -23,7 +23,7 @@ pub record Within (n p b d r : ℕ) : Type 0 where
   pub below : r < p * b
   pub digit : d + b ≤ 10
 
--- m times the power taken where the rest has them: at most b times are left
+-- m times the power taken where the rest has them: less than b times are left
 pub taken : (n p m b part d r d′ r′ : ℕ) → Within n p (m + b) d r → m ≤ b → part ≡ p * m → r′ ≡ cond (leb part r) (r - part) r
     → d′ ≡ cond (leb part r) (d + m) d → Within n p b d′ r′
 taken n p m b part d r d′ r′ w h q e f = go (decLt r part)
@@ -50,6 +50,7 @@ unfoldable pub inPlaces : ℕ → ℕ → List ℕ
 inPlaces zero n = []
 inPlaces (suc k) n = inPlaces k (n / 10) ++ ((48 + n % 10) ∷ [])
 
+-- one power higher is ten times as much
 tens : (k d : ℕ) → 10 ^ suc k * d ≡ 10 ^ k * d * 10
 tens k d = ap (λ (p : ℕ). p * d) (pow-suc 10 k) ∙ mul-assoc (10 ^ k) 10 d ∙ ap (λ (x : ℕ). 10 ^ k * x) (mul-comm 10 d) ∙ sym (mul-assoc (10 ^ k) d 10)
 

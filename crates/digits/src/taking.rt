@@ -44,7 +44,7 @@ fn count_digits(n: u32) -> usize
     10
 }
 
-// Ten to the power.
+// Ten to the power k.
 fn power_of(k: usize) -> u32
     requires { ⌜ k < 10 ⌝ }
     ensures { λ r. ⌜ r ≡ 10 ^ k ⌝ }
@@ -63,10 +63,11 @@ fn power_of(k: usize) -> u32
     }
 }
 
-// The digit of n at a power. A loop that takes the power away the optimiser would make a division again; 4 times it fits 32 bits, 8 times not.
+// The digit of n at a power, and what is left. By comparisons: a loop that takes a constant away the optimiser makes a division.
+// 4, 2, 2 and 1 times the power: 8 times the highest does not fit 32 bits.
 fn take_digit(n: u32, power: u32) -> Taken
     requires { ⌜ (n < power * 10) × (power ≤ 1000000000) ⌝ }
-    ensures { λ r. ⌜ (power * (r .digit) + (r .rest) ≡ n) × ((r .rest) < power) × ((r .digit) < 10) ⌝ }
+    ensures { λ r. ⌜ (power * r .digit + r .rest ≡ n) × (r .rest < power) × (r .digit < 10) ⌝ }
 {
     let two = power + power;
     let whole = Taken { rest: n, digit: 0 };
@@ -78,8 +79,9 @@ fn take_digit(n: u32, power: u32) -> Taken
 
 // A part taken away, so many times the power, where the rest has it.
 fn take_part(t: Taken, part: u32, times: u8) -> Taken
-    requires { ⌜ (t .digit) + times ≤ 10 ⌝ }
-    ensures { λ r. ⌜ ((r .rest) ≡ cond (leb part (t .rest)) ((t .rest) - part) (t .rest)) × ((r .digit) ≡ cond (leb part (t .rest)) ((t .digit) + times) (t .digit)) ⌝ }
+    requires { ⌜ t .digit + times ≤ 10 ⌝ }
+    ensures { λ r. ⌜ (r .rest ≡ cond (leb part (t .rest)) (t .rest - part) (t .rest))
+        × (r .digit ≡ cond (leb part (t .rest)) (t .digit + times) (t .digit)) ⌝ }
 {
     if part <= t.rest {
         return Taken {
