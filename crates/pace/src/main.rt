@@ -1,5 +1,6 @@
 // What feed and turn cost: a stream of bytes, or a turn, again and again, and a digest of all that was answered. Unit 1 on the
-// empty image. The first line of standard input is `feed MOST TIMES` or `turn STEPS TIMES`; the bytes behind it are the stream.
+// empty image. The first line of standard input is `feed MOST TIMES`, `asks MOST TIMES` (the same, from a position of ten digits)
+// or `turn STEPS TIMES`; the bytes behind it are the stream.
 ghost use Prim.Native.Nat.{_≤_, _<_};
 ghost use lib.ListN.{length};
 use digits::Operand;
@@ -15,12 +16,16 @@ const BUFFER_BYTES: usize = 262;
 // Where the status of an answer stands.
 const STATUS_AT: usize = 2;
 
-// `feed ` and `turn ` have so many bytes.
+// `feed `, `asks ` and `turn ` have so many bytes.
 const WORD_BYTES: usize = 5;
+
+// So many turns serve the line that leads to a position of ten digits.
+const SERVED: u32 = 2;
 
 // What the first line asks for: which call, with what, how often; and where the stream begins.
 struct Task {
     turns: bool,
+    asks: bool,
     number: u32,
     times: u32,
     at: usize,
@@ -63,8 +68,9 @@ fn pace(input: &[u8]) -> u32 {
             &mut buffer,
         );
     }
+    let begun = begin(p, task.asks, &mut image, &mut buffer);
     feed_times(
-        p,
+        begun,
         &input[at..],
         task.number as usize,
         task.times,
@@ -89,6 +95,7 @@ fn task_of(input: &[u8]) -> Task {
     }
     Task {
         turns: input[0] == b't',
+        asks: input[0] == b'a',
         number: number,
         times: times,
         at: end + 1,
@@ -99,10 +106,20 @@ fn task_of(input: &[u8]) -> Task {
 fn no_task() -> Task {
     Task {
         turns: false,
+        asks: false,
         number: 0,
         times: 0,
         at: 0,
     }
+}
+
+// The unit as it was started, or at the end of its range.
+fn begin(p: Paced, asks: bool, image: &mut [u8], buffer: &mut [u8]) -> Paced {
+    if asks {
+        let fed = feed_stream(p, b"/1z2147483647R\r", BUFFER_BYTES, image, buffer);
+        return turn_times(fed, 0, SERVED, image);
+    }
+    p
 }
 
 // The stream fed again and again.
@@ -186,7 +203,7 @@ fn wide(x: u8) -> u32 {
     x as u32
 }
 
-// The stream fed once, then a turn again and again.
+// The stream fed once, then a turn again and again. The digest, with the position.
 fn turn_stream(
     p: Paced,
     stream: &[u8],
@@ -196,11 +213,15 @@ fn turn_stream(
     buffer: &mut [u8],
 ) -> u32 {
     let fed = feed_stream(p, stream, stream.len(), image, buffer);
-    turn_times(fed, steps, times, image)
+    let turned = turn_times(fed, steps, times, image);
+    let u = turned.unit;
+    let core = u.core;
+    let motor = core.motor;
+    std::num::wrapping_add_u32(turned.sum, motor.position)
 }
 
-// A turn again and again: at most so many of the steps that the action before allowed are reported. The digest, with the position.
-fn turn_times(p: Paced, steps: u32, times: u32, image: &[u8]) -> u32 {
+// A turn again and again: at most so many of the steps that the action before allowed are reported.
+fn turn_times(p: Paced, steps: u32, times: u32, image: &[u8]) -> Paced {
     let mut u = p.unit;
     let mut sum = p.sum;
     let mut number: u32 = 0;
@@ -213,9 +234,7 @@ fn turn_times(p: Paced, steps: u32, times: u32, image: &[u8]) -> u32 {
         number = action.number;
         sum = std::num::wrapping_add_u32(sum, code_of(direction, number));
     }
-    let core = u.core;
-    let motor = core.motor;
-    std::num::wrapping_add_u32(sum, motor.position)
+    Paced { unit: u, sum: sum }
 }
 
 // The lesser of two.
