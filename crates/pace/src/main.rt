@@ -19,8 +19,8 @@ const STATUS_AT: usize = 2;
 // `feed `, `asks ` and `turn ` have so many bytes.
 const WORD_BYTES: usize = 5;
 
-// So many turns serve the line that leads to a position of ten digits.
-const SERVED: u32 = 2;
+// A position of ten digits.
+const FAR: u32 = 2147483647;
 
 // What the first line asks for: which call, with what, how often; and where the stream begins.
 struct Task {
@@ -56,7 +56,7 @@ fn pace(input: &[u8]) -> u32 {
     image::clear(&mut image);
     let mut buffer = [0u8; BUFFER_BYTES];
     let s = drive::start(1, &image);
-    let u = s.unit;
+    let u = begin(s.unit, task.asks);
     let p = Paced { unit: u, sum: 0 };
     if task.turns {
         return turn_stream(
@@ -68,9 +68,8 @@ fn pace(input: &[u8]) -> u32 {
             &mut buffer,
         );
     }
-    let begun = begin(p, task.asks, &mut image, &mut buffer);
     feed_times(
-        begun,
+        p,
         &input[at..],
         task.number as usize,
         task.times,
@@ -113,13 +112,13 @@ fn no_task() -> Task {
     }
 }
 
-// The unit as it was started, or at the end of its range.
-fn begin(p: Paced, asks: bool, image: &mut [u8], buffer: &mut [u8]) -> Paced {
+// The unit as it was started, or far away.
+fn begin(u: Drive, asks: bool) -> Drive {
+    let mut v = u;
     if asks {
-        let fed = feed_stream(p, b"/1z2147483647R\r", BUFFER_BYTES, image, buffer);
-        return turn_times(fed, 0, SERVED, image);
+        v.core.motor.position = FAR;
     }
-    p
+    v
 }
 
 // The stream fed again and again.
@@ -203,7 +202,7 @@ fn wide(x: u8) -> u32 {
     x as u32
 }
 
-// The stream fed once, then a turn again and again. The digest, with the position.
+// The stream fed once, then a turn again and again.
 fn turn_stream(
     p: Paced,
     stream: &[u8],
@@ -213,15 +212,11 @@ fn turn_stream(
     buffer: &mut [u8],
 ) -> u32 {
     let fed = feed_stream(p, stream, stream.len(), image, buffer);
-    let turned = turn_times(fed, steps, times, image);
-    let u = turned.unit;
-    let core = u.core;
-    let motor = core.motor;
-    std::num::wrapping_add_u32(turned.sum, motor.position)
+    turn_times(fed, steps, times, image)
 }
 
-// A turn again and again: at most so many of the steps that the action before allowed are reported.
-fn turn_times(p: Paced, steps: u32, times: u32, image: &[u8]) -> Paced {
+// A turn again and again: at most so many of the steps that the action before allowed are reported. The digest, with the position.
+fn turn_times(p: Paced, steps: u32, times: u32, image: &[u8]) -> u32 {
     let mut u = p.unit;
     let mut sum = p.sum;
     let mut number: u32 = 0;
@@ -234,7 +229,9 @@ fn turn_times(p: Paced, steps: u32, times: u32, image: &[u8]) -> Paced {
         number = action.number;
         sum = std::num::wrapping_add_u32(sum, code_of(direction, number));
     }
-    Paced { unit: u, sum: sum }
+    let core = u.core;
+    let motor = core.motor;
+    std::num::wrapping_add_u32(sum, motor.position)
 }
 
 // The lesser of two.

@@ -99,6 +99,7 @@ pub fn digest(input: &[u8]) -> Option<u32> {
         "asks" => {
             paced.feed(FAR, PACKET);
             paced.turns(0, SERVED);
+            paced.sum = 0;
             paced.feed_times(stream, number.parse().ok()?, times)
         }
         "turn" => paced.turn_times(stream, number.parse().ok()?, times),
@@ -168,8 +169,8 @@ mod tests {
     fn what_is_asked() {
         assert_eq!(digest(b"feed 16 3\n/1?0\r/2A1000R\r/1V305175\r"), Some(687));
         assert_eq!(digest(b"feed 16 0\n/1?0\r"), Some(0));
-        // An answer of ten digits is longer by nine; the line that leads to it is answered too, and two turns have no action.
-        assert_eq!(digest(b"asks 16 2\n/1?0\r"), digest(b"feed 16 2\n/1?0\r").map(|sum| sum + 2 * 9 + 15 + 6 + 0x40 + 14));
+        // An answer of ten digits is longer by nine.
+        assert_eq!(digest(b"asks 16 2\n/1?0\r"), digest(b"feed 16 2\n/1?0\r").map(|sum| sum + 2 * 9));
         assert_eq!(digest(b"turn 0 3\n"), Some(21));
         for bad in [&b""[..], b"feed 16 3", b"feed x 3\n", b"fed 16 3\n", b"turn 16\n"] {
             assert_eq!(digest(bad), None);
