@@ -50,7 +50,7 @@ pub const MODES: [Mode; 12] = [
     Mode { name: "feed, 200-byte bodies, 16 bytes a call", call: Call::Feed(16), stream: LONG },
     Mode { name: "feed, 200-byte bodies, 256 bytes a call", call: Call::Feed(256), stream: LONG },
     Mode { name: "feed, ten-digit answers, 1 byte a call", call: Call::Asks(1), stream: ASKS },
-    Mode { name: "feed, ten-digit answers, 16 bytes a call", call: Call::Asks(16), stream: ASKS },
+    Mode { name: "feed, ten-digit answers, a frame a call", call: Call::Asks(5), stream: ASKS },
     Mode { name: "turn, idle", call: Call::Turn(0), stream: b"" },
     Mode { name: "turn, in a move", call: Call::Turn(1), stream: b"/1P2147483647R\r" },
     Mode { name: "turn, a command taken", call: Call::Turn(0), stream: b"/1gz0V1000L100m5J1h7o1500b9600G0R\r" },

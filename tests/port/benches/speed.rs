@@ -191,7 +191,7 @@ fn rows() -> Vec<Row> {
 }
 
 fn pace_row(mode: Mode) -> Row {
-    let near = matches!(mode.call, Call::Feed(most) | Call::Asks(most) if most >= 16);
+    let near = matches!(mode.call, Call::Feed(most) if most >= 16);
     Row { name: mode.name, items: mode.items(), target: if near { NEAR } else { FAR }, work: Work::Pace(mode) }
 }
 
