@@ -1,12 +1,12 @@
--- Laws of a number in decimal: its digits one by one, how many there are, and how they are made from the last. Assumes nothing.
+-- Laws of a number in decimal: its digits one by one, and how many there are. Assumes nothing.
 use Prim.Native.Nat.{ℕ, zero, suc, _+_, _-_, _/_, _%_, _^_, _≤_, _<_}
 use mathlib.Core.Path.{_≡_, refl, sym, ap, _∙_}
-use mathlib.Core.List.{List, [], _∷_, _++_, append-assoc, append-nil}
+use mathlib.Core.List.{List, [], _∷_, _++_}
 use native.Mathlib.Omega.{arith}
-use native.Mathlib.Nat.{not-suc-le-zero, pow-suc}
+use native.Mathlib.Nat.{not-suc-le-zero, pow-suc, one-le-pow}
 use native.Mathlib.Decide.{decLt}
-use lib.ListN.{length, set, take, drop, length-append, length-drop, length-map, length-set}
-use lib.Seq.{take-all, drop-cons, drop-length, getD-set-same, drop-set-lt}
+use lib.ListN.{length, take, length-append, length-map}
+use lib.Seq.{length-take-le}
 use borrow.Author.Tests.{lt-ltb, le-ltb, le-leb, lt-leb, leb-true}
 use mathlib.Core.Bool.{Bool, true, false}
 use Rattle.parts.specs.Parts.{put, PutIs}
@@ -117,70 +117,40 @@ length-most (suc k) n h g = go k (λ a b. length-most k (n / 10) a b) g (decLt n
         let l : 10 ≤ n = omega arith in
         omega (arith, length-more n l, rest (omega arith) (omega (arith, pow-suc 10 (suc i))))
 
--- ---- made from the last digit on
+-- a number of 32 bits has at most ten digits
+pub length-ten : (n : ℕ) → n ≤ widest → length (decimal n) ≤ 10
+length-ten n h = length-most 10 n (omega arith) (omega arith)
 
--- what holds where rest is still to be written, at place i and before it, and all behind it is
-pub record Making (n : ℕ) (digits : List ℕ) (rest i : ℕ) : Type 0 where
-  pub place : i < 10
-  pub small : rest < 10 ^ suc i
-  pub same : decimal n ≡ decimal rest ++ drop (suc i) digits
-  pub long : length digits ≡ 10
+-- a number of 10 to the k and more has more than k digits
+pub length-least : (k n : ℕ) → 10 ^ k ≤ n → k < length (decimal n)
+length-least zero n h = length-some n
+length-least (suc k) n h = go (λ a. length-least k (n / 10) a) (decLt n 10)
+  where
+    go : (10 ^ k ≤ n / 10 → k < length (decimal (n / 10))) → Dec (n < 10) → suc k < length (decimal n)
+    go rest (yes l) = absurd (omega (arith, h, pow-suc 10 k, one-le-pow k 10 (omega arith)))
+    go rest (no m) =
+        let l : 10 ≤ n = omega arith in
+        omega (arith, length-more n l, rest (omega (arith, h, pow-suc 10 k)))
 
-drop-set : (l : List ℕ) (i v : ℕ) → i < length l → drop i (set l i v) ≡ v ∷ drop (suc i) l
-drop-set l i v h =
-    drop-cons (set l i v) i 0 (simp length-set h) ∙ rw (getD-set-same l i v 0 h, drop-set-lt (suc i) l i v (omega arith))
-
-pub making : (n : ℕ) (digits : List ℕ) → n ≤ widest → length digits ≡ 10 → Making n digits n 9
-making n digits h e = record {
-  place = omega arith;
-  small = omega arith;
-  same = sym (ap (λ (l : List ℕ). decimal n ++ l) (ap (λ (k : ℕ). drop k digits) (sym e) ∙ drop-length digits) ∙ append-nil (decimal n));
-  long = e;
-}
-
--- a place is left while more than one digit is
-pub left-place : (n : ℕ) (digits : List ℕ) (rest i : ℕ) → Making n digits rest i → 10 ≤ rest → 1 ≤ i
-left-place n digits rest zero m h = absurd (omega (arith, m .small))
-left-place n digits rest (suc i) m h = omega arith
-
-pub made-more : (n : ℕ) (digits : List ℕ) (rest i : ℕ) → Making n digits rest i → 10 ≤ rest
-    → Making n (set digits i (48 + rest % 10)) (rest / 10) (i - 1)
-made-more n digits rest zero m h = absurd (omega (arith, m .small))
-made-more n digits rest (suc i) m h =
-    let x : ℕ = 48 + rest % 10 in
-    let down : suc i - 1 ≡ i = omega arith in
-    let stored : drop (suc i) (set digits (suc i) x) ≡ x ∷ drop (suc (suc i)) digits = drop-set digits (suc i) x (omega (arith, m .place, m .long)) in
-    rw down (record {
-      place = omega (arith, m .place);
-      small = omega (arith, m .small, pow-suc 10 (suc i));
-      same = m .same ∙ rw (decimal-more rest h, append-assoc, stored);
-      long = length-set digits (suc i) x ∙ m .long;
-    })
-
-pub made : (n : ℕ) (digits : List ℕ) (rest i : ℕ) → Making n digits rest i → rest < 10 → drop i (set digits i (48 + rest)) ≡ decimal n
-made n digits rest i m h =
-    drop-set digits i (48 + rest) (omega (arith, m .place, m .long))
-    ∙ sym (m .same ∙ ap (λ (l : List ℕ). l ++ drop (suc i) digits) (decimal-last rest h))
-
--- the last places, from `start` on, were handed to `put_at`
-module _ (buffer digits : List ℕ) (at n start : ℕ) (long : length digits ≡ 10) (same : drop start digits ≡ decimal n) where
-  number-put : {answer answer′ : Bool} {after : List ℕ} → PutIs buffer at (take (10 - start) (drop start digits)) answer after → answer ≡ answer′
+-- the first places, `count` of them, were handed to `put_at`
+module _ (buffer digits : List ℕ) (at n count : ℕ) (long : count ≤ length digits) (same : take count digits ≡ decimal n) where
+  number-put : {answer answer′ : Bool} {after : List ℕ} → PutIs buffer at (take (count - 0) digits) answer after → answer ≡ answer′
       → PutIs buffer at (decimal n) answer′ after
   number-put p t =
-      let all : take (10 - start) (drop start digits) ≡ decimal n = take-all (10 - start) (drop start digits) (simp length-drop (omega arith)) ∙ same in
-      rw (← t) (rw all at p)
+      let all : count - 0 ≡ count = omega arith in
+      rw (← t) (rw (all, same) at p)
 
-  number-length : 10 - start ≡ length (decimal n)
-  number-length = omega (arith, ap length same, length-drop start digits)
+  number-length : count ≡ length (decimal n)
+  number-length = sym (length-take-le count digits long) ∙ ap length same
 
-  pub number-fits : {answer : Bool} {after : List ℕ} → PutIs buffer at (take (10 - start) (drop start digits)) answer after → answer ≡ true
-      → at + (10 - start) ≤ length buffer
+  pub number-fits : {answer : Bool} {after : List ℕ} → PutIs buffer at (take (count - 0) digits) answer after → answer ≡ true
+      → at + count ≤ length buffer
   number-fits p t = omega (arith, number-length, leb-true (at + length (decimal n)) (length buffer) (sym (number-put p t .answers)))
 
-  pub number-written : {answer : Bool} {after : List ℕ} → PutIs buffer at (take (10 - start) (drop start digits)) answer after → answer ≡ true
-      → WrittenIs buffer at (decimal n) (Past (at + (10 - start))) after
+  pub number-written : {answer : Bool} {after : List ℕ} → PutIs buffer at (take (count - 0) digits) answer after → answer ≡ true
+      → WrittenIs buffer at (decimal n) (Past (at + count)) after
   number-written p t = put-written buffer at (decimal n) (number-put p t) (ap (λ (k : ℕ). at + k) number-length)
 
-  pub number-refused : {answer : Bool} {after : List ℕ} → PutIs buffer at (take (10 - start) (drop start digits)) answer after → answer ≡ false
+  pub number-refused : {answer : Bool} {after : List ℕ} → PutIs buffer at (take (count - 0) digits) answer after → answer ≡ false
       → WrittenIs buffer at (decimal n) NoRoom after
   number-refused p t = put-refused buffer at (decimal n) (number-put p t)

@@ -1,9 +1,11 @@
 // Operands: a run of digits read as a number of any size, and a number written in decimal.
+mod taking;
+
 ghost use mathlib.Core.Path.{_≡_};
 ghost use mathlib.Core.List.{[], _∷_};
 ghost use mathlib.Core.Bool.{cond};
 ghost use Prim.Native.Nat.{_+_, _*_, _<_, _≤_, min};
-ghost use lib.ListN.{length, drop};
+ghost use lib.ListN.{drop};
 ghost use lib.Dec.{ltb};
 ghost use Rattle.digits.specs.Operand.{digitRun, widest, operandAt};
 ghost use Rattle.digits.specs.Decimal.{decimal, WrittenIs};
@@ -57,9 +59,9 @@ pub fn write_number(buffer: &mut [u8], at: usize, n: u32) -> Written
     ensures { λ r. ⌜ WrittenIs (now (buffer .entry)) at (decimal n) r (now (buffer .exit)) ⌝ }
 {
     let mut digits = [0u8; 10];
-    let start = make_digits(n, &mut digits);
-    if parts::put_at(buffer, at, &digits[start..]) {
-        return Written::Past(at + (10 - start));
+    let count = taking::make_digits(n, &mut digits);
+    if parts::put_at(buffer, at, &digits[0..count]) {
+        return Written::Past(at + count);
     }
     Written::NoRoom
 }
@@ -99,22 +101,6 @@ fn push(v: u64, d: u32) -> u64
 {
     let w = v * 10 + (d as u64);
     if w <= TOO_WIDE { w } else { TOO_WIDE }
-}
-
-// Makes the digits of n at the end of ten places; the place where they begin.
-fn make_digits(n: u32, digits: &mut [u8]) -> usize
-    requires { ⌜ length (now digits) ≡ 10 ⌝ }
-    ensures { λ r. ⌜ (r < 10) × (drop r (now (digits .exit)) ≡ decimal n) ⌝ }
-{
-    let mut rest = n;
-    let mut i = 9;
-    while 10 <= rest {
-        digits[i] = b'0' + (rest % 10) as u8;
-        rest = rest / 10;
-        i -= 1;
-    }
-    digits[i] = b'0' + rest as u8;
-    i
 }
 
 // What is claimed of operands and decimals together.

@@ -1,5 +1,6 @@
 // What feed and turn cost: a stream of bytes, or a turn, again and again, and a digest of all that was answered. Unit 1 on the
-// empty image. The first line of standard input is `feed MOST TIMES` or `turn STEPS TIMES`; the bytes behind it are the stream.
+// empty image. The first line of standard input is `feed MOST TIMES`, `asks MOST TIMES` (the same, from a position of ten digits)
+// or `turn STEPS TIMES`; the bytes behind it are the stream.
 ghost use Prim.Native.Nat.{_≤_, _<_};
 ghost use lib.ListN.{length};
 use digits::Operand;
@@ -20,12 +21,16 @@ const TEXT_BYTES: usize = 256;
 // Where the status of an answer stands.
 const STATUS_AT: usize = 2;
 
-// `feed ` and `turn ` have so many bytes.
+// `feed `, `asks ` and `turn ` have so many bytes.
 const WORD_BYTES: usize = 5;
+
+// A position of ten digits.
+const FAR: u32 = 2147483647;
 
 // What the first line asks for: which call, with what, how often; and where the stream begins.
 struct Task {
     turns: bool,
+    asks: bool,
     number: u32,
     times: u32,
     at: usize,
@@ -58,7 +63,7 @@ fn pace(input: &[u8]) -> u32 {
     let mut body = [0u8; BODY_BYTES];
     let mut text = [0u8; TEXT_BYTES];
     let s = drive::start(1, &image, &mut body, &mut text);
-    let u = s.unit;
+    let u = begin(s.unit, task.asks);
     let p = Paced { unit: u, sum: 0 };
     if task.turns {
         return turn_stream(
@@ -100,6 +105,7 @@ fn task_of(input: &[u8]) -> Task {
     }
     Task {
         turns: input[0] == b't',
+        asks: input[0] == b'a',
         number: number,
         times: times,
         at: end + 1,
@@ -110,10 +116,20 @@ fn task_of(input: &[u8]) -> Task {
 fn no_task() -> Task {
     Task {
         turns: false,
+        asks: false,
         number: 0,
         times: 0,
         at: 0,
     }
+}
+
+// The unit as it was started, or far away.
+fn begin(u: Record, asks: bool) -> Record {
+    let mut v = u;
+    if asks {
+        v.core.motor.position = FAR;
+    }
+    v
 }
 
 // The stream fed again and again.

@@ -16,11 +16,19 @@ const SHORT: &[u8] = b"/1?0\r/2A1000R\r/1V305175\r/5gP5G3R\r/1M100\r/AL1000\r/3?
 const LONG: &[u8] = b"/1gA1000P200D300M50S01z0G10gA1000P200D300M50S01z0G10gA1000P200D300M50S01z0G10gA1000P200D300M50S01z0G10\
     gA1000P200D300M50S01z0G10gA1000P200D300M50S01z0G10gA1000P200D300M50S01z0G10gA1000P200D300M50S01z0G10\r";
 
+/// A line that leads to a position of ten digits, and the turns that serve it.
+const FAR: &[u8] = b"/1z2147483647R\r";
+const SERVED: u32 = 2;
+/// What asks for it.
+const ASKS: &[u8] = b"/1?0\r";
+
 /// What is repeated.
 #[derive(Clone, Copy, Debug, PartialEq, Eq)]
 pub enum Call {
     /// The stream is fed in calls of at most so many bytes.
     Feed(usize),
+    /// The same, from a position of ten digits.
+    Asks(usize),
     /// The stream is fed once; then in each turn at most so many steps are reported.
     Turn(u32),
 }
@@ -34,13 +42,15 @@ pub struct Mode {
 }
 
 /// All that is timed.
-pub const MODES: [Mode; 10] = [
+pub const MODES: [Mode; 12] = [
     Mode { name: "feed, short frames, 1 byte a call", call: Call::Feed(1), stream: SHORT },
     Mode { name: "feed, short frames, 16 bytes a call", call: Call::Feed(16), stream: SHORT },
     Mode { name: "feed, short frames, 256 bytes a call", call: Call::Feed(256), stream: SHORT },
     Mode { name: "feed, 200-byte bodies, 1 byte a call", call: Call::Feed(1), stream: LONG },
     Mode { name: "feed, 200-byte bodies, 16 bytes a call", call: Call::Feed(16), stream: LONG },
     Mode { name: "feed, 200-byte bodies, 256 bytes a call", call: Call::Feed(256), stream: LONG },
+    Mode { name: "feed, ten-digit answers, 1 byte a call", call: Call::Asks(1), stream: ASKS },
+    Mode { name: "feed, ten-digit answers, a frame a call", call: Call::Asks(5), stream: ASKS },
     Mode { name: "turn, idle", call: Call::Turn(0), stream: b"" },
     Mode { name: "turn, in a move", call: Call::Turn(1), stream: b"/1P2147483647R\r" },
     Mode { name: "turn, a command taken", call: Call::Turn(0), stream: b"/1gz0V1000L100m5J1h7o1500b9600G0R\r" },
@@ -52,6 +62,7 @@ impl Mode {
     pub fn input(&self, times: u32) -> Vec<u8> {
         let line = match self.call {
             Call::Feed(most) => format!("feed {most} {times}\n"),
+            Call::Asks(most) => format!("asks {most} {times}\n"),
             Call::Turn(steps) => format!("turn {steps} {times}\n"),
         };
         [line.as_bytes(), self.stream].concat()
@@ -60,7 +71,7 @@ impl Mode {
     /// Bytes or turns of one time.
     pub fn items(&self) -> usize {
         match self.call {
-            Call::Feed(_) => self.stream.len(),
+            Call::Feed(_) | Call::Asks(_) => self.stream.len(),
             Call::Turn(_) => 1,
         }
     }
@@ -85,6 +96,12 @@ pub fn digest(input: &[u8]) -> Option<u32> {
     let mut paced = Paced { unit, image, buffer: [0; PACKET], sum: 0 };
     match call {
         "feed" => paced.feed_times(stream, number.parse().ok()?, times),
+        "asks" => {
+            paced.feed(FAR, PACKET);
+            paced.turns(0, SERVED);
+            paced.sum = 0;
+            paced.feed_times(stream, number.parse().ok()?, times)
+        }
         "turn" => paced.turn_times(stream, number.parse().ok()?, times),
         _ => return None,
     }
@@ -125,6 +142,12 @@ impl Paced {
     /// The stream fed once, then a turn again and again.
     fn turn_times(&mut self, stream: &[u8], steps: u32, times: u32) {
         self.feed(stream, stream.len());
+        self.turns(steps, times);
+        self.add(self.unit.position().number);
+    }
+
+    /// A turn again and again.
+    fn turns(&mut self, steps: u32, times: u32) {
         let mut number = 0;
         for i in 0..times {
             let (told, code) = match self.unit.turn(&self.image, (i % 16) as u8, 1, steps.min(number)) {
@@ -135,7 +158,6 @@ impl Paced {
             number = told;
             self.add(code);
         }
-        self.add(self.unit.position().number);
     }
 }
 
@@ -147,6 +169,8 @@ mod tests {
     fn what_is_asked() {
         assert_eq!(digest(b"feed 16 3\n/1?0\r/2A1000R\r/1V305175\r"), Some(687));
         assert_eq!(digest(b"feed 16 0\n/1?0\r"), Some(0));
+        // An answer of ten digits is longer by nine.
+        assert_eq!(digest(b"asks 16 2\n/1?0\r"), digest(b"feed 16 2\n/1?0\r").map(|sum| sum + 2 * 9));
         assert_eq!(digest(b"turn 0 3\n"), Some(21));
         for bad in [&b""[..], b"feed 16 3", b"feed x 3\n", b"fed 16 3\n", b"turn 16\n"] {
             assert_eq!(digest(bad), None);

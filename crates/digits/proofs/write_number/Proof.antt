@@ -1,4 +1,4 @@
--- `digits::write_number` meets its contract: the places from the first digit on are the number in decimal, and `put_at` writes them or refuses.
+-- `digits::write_number` meets its contract: the first places are the number in decimal, and `put_at` writes them or refuses.
 -- Assumes nothing.
 use native.Mathlib.Omega.{arith}
 use Rattle.digits.proofs.Writing.{number-fits, number-written, number-refused}
@@ -24,14 +24,11 @@ part-put-at-end c = search needs
 put-at-requires : tie.Need-put-at-requires
 put-at-requires c κs = search needs
 
-sub-t16 : tie.Need-sub-t16
-sub-t16 c = search needs
-
-add-t17 : tie.Need-add-t17
-add-t17 c =
+add-t16 : tie.Need-add-t16
+add-t16 c =
     let a = c .before .before .before .before .before .before .before .before .before .before .before .args in
     let m = c .before .before .before .before .before .before .before .before .make-digits in
-    omega (arith, number-fits (a .buffer .now) (m .last .1 .0) (a .at) (a .n) (m .result) (m .kept .1 .0) (m .ensures .1) (c .before .before .before .put-at .ensures) (c .if1 .taken))
+    omega (arith, number-fits (a .buffer .now) (m .last .1 .0) (a .at) (a .n) (m .result) (omega (arith, m .kept .1 .0, m .ensures .0)) (m .ensures .1) (c .before .before .before .put-at .ensures) (c .if1 .taken))
 
 same-length : tie.Need-same-length
 same-length c = search needs
@@ -40,7 +37,7 @@ returns : tie.Need-returns
 returns c =
     let a = c .before .before .before .before .before .before .before .before .before .before .before .args in
     let m = c .before .before .before .before .before .before .before .before .make-digits in
-    number-written (a .buffer .now) (m .last .1 .0) (a .at) (a .n) (m .result) (m .kept .1 .0) (m .ensures .1) (c .before .before .before .put-at .ensures) (c .if1 .taken)
+    number-written (a .buffer .now) (m .last .1 .0) (a .at) (a .n) (m .result) (omega (arith, m .kept .1 .0, m .ensures .0)) (m .ensures .1) (c .before .before .before .put-at .ensures) (c .if1 .taken)
 
 same-length-2 : tie.Need-same-length-2
 same-length-2 c = search needs
@@ -49,7 +46,7 @@ returns-2 : tie.Need-returns-2
 returns-2 c =
     let a = c .before .before .before .before .before .before .before .before .before .before .before .args in
     let m = c .before .before .before .before .before .before .before .before .make-digits in
-    number-refused (a .buffer .now) (m .last .1 .0) (a .at) (a .n) (m .result) (m .kept .1 .0) (m .ensures .1) (c .before .before .before .put-at .ensures) (c .if1 .left)
+    number-refused (a .buffer .now) (m .last .1 .0) (a .at) (a .n) (m .result) (omega (arith, m .kept .1 .0, m .ensures .0)) (m .ensures .1) (c .before .before .before .put-at .ensures) (c .if1 .left)
 
 pub write-number-spec : {M : Type 1} → statement M
 write-number-spec =
@@ -61,8 +58,7 @@ write-number-spec =
     part-put-at-start
     part-put-at-end
     put-at-requires
-    sub-t16
-    add-t17
+    add-t16
     same-length
     returns
     same-length-2
