@@ -28,7 +28,7 @@ fn a_broken_model_is_found_and_the_script_is_short() {
     let lines: Vec<&str> = text.lines().collect();
     assert!(text.contains("        model:   act down 10000\n        program: act up 10000\n"), "{text}");
     assert!(lines[lines.len() - 1].ends_with(" passed, 1 failed"), "{text}");
-    let count: usize = lines[1].split(' ').nth(3).unwrap().parse().unwrap();
+    let count: usize = lines[2].split(' ').nth(3).unwrap().parse().unwrap();
     assert!(count <= 15, "{text}");
 }
 
