@@ -29,25 +29,25 @@ const BLANK: u8 = 0xa5;
 
 /// What `help` answers.
 const HELP: &str = "\
-image HEX: lend these bytes as the image
-image empty: lend the image with all slots empty
-room N: lend an answer buffer of N bytes, each a5
-buffer: tell the answer buffer
-start N: start unit N
-feed HEX: feed these bytes
-turn SAMPLE MS STEPS: make one turn
-run SAMPLE MS: make turns until the unit is idle or waits for an input
-timeline SAMPLE MS: the same, with a line for each turn
-unit: tell the unit
-store: tell the image
-line HEX: judge a body
-text HEX: judge a text to be stored
-ramp V L N: tell the ramp of N microsteps
-ramp V L endless: tell the ramp of an endless move
-write SLOT RUN LIST: write a line from a list of commands
-read HEX: read an answer packet
-/...: feed a line as it is typed, with a CR
-help: tell the operations";
+image HEX : lend these bytes as the image
+image empty : lend the image with all slots empty
+room N : lend an answer buffer of N bytes, each a5
+buffer : tell the answer buffer
+start N : start unit N
+feed HEX : feed these bytes
+turn SAMPLE MS STEPS : make one turn
+run SAMPLE MS : make turns until the unit is idle or waits for an input
+timeline SAMPLE MS : the same, with a line for each turn
+unit : tell the unit
+store : tell the image
+line HEX : judge a body
+text HEX : judge a text to be stored
+ramp V L N : tell the ramp of N microsteps
+ramp V L endless : tell the ramp of an endless move
+write SLOT RUN LIST : write a line from a list of commands
+read HEX : read an answer packet
+/... : feed a line as it is typed, with a CR
+help : tell the operations";
 
 /// "It holds one image (at first: all slots empty), one unit (at first: none)
 /// and an answer buffer (at first 262 bytes)."

@@ -209,7 +209,7 @@ ran 8 idle 1";
 fn help() {
     let lines = answers(&["help"]).concat();
     assert_eq!(lines.lines().count(), 19);
-    assert!(lines.lines().all(|line| line.contains(": ")));
+    assert!(lines.lines().all(|line| line.contains(" : ")));
 }
 
 #[test]

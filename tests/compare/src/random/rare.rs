@@ -16,7 +16,7 @@ const TIMES: &[u64] = &[
 /// Bodies with the letters that "are not in the base".
 const NOT_IN_THE_BASE: &[&str] = &[
     "p", "&", "p5", "&5", "p5R", "&R", "&0R", "A5p", "A5&", "A5p1R", "A5&1R", "gp1G2R", "s1p5R", "s1&R",
-    "p&R",
+    "p&R", "&G2R", "&P1G2", "s1&G2R",
 ];
 
 /// A generator of such scripts, for a unit that is idle and whose buffer and
@@ -125,23 +125,24 @@ impl Rare<'_> {
         self.pick(&others)
     }
 
-    /// A body over 700 bytes whose length is that of its good beginning but for
-    /// a multiple of 256.
+    /// A body over 700 bytes whose length is that of a good one but for a
+    /// multiple of 256, and which begins and ends as that; or commands of one
+    /// byte alone.
     fn long_body(&mut self) -> Script {
-        let begin = self.pick(&["z7R", "T", "?0", "", "A5", "s1A5R", "R", "X", "$"]);
-        let more = 256 * (3 + self.lines.random.under(6));
-        let body = [begin.as_bytes(), &vec![self.pick(b"0R5 "); more]].concat();
+        let good = self.pick(&["z7R", "T", "?0", "", "A5", "s1A5R", "R", "X", "$"]).as_bytes();
+        let more = 256 * (3 + self.lines.random.under(6)) - good.len();
+        let filler = self.pick(b"0R5 HH");
+        let body = [good, &vec![filler; more], good].concat();
         vec![self.frame(&body), b"unit".to_vec()]
     }
 
     /// The same with more than 65,536 bytes, in parts.
     fn longest_body(&mut self) -> Script {
-        let begin = self.pick(&["z7R", "?0", "A5"]);
-        let filled = with_hex("feed", &[b'0'; 16_384]);
-        let mut script = vec![with_hex("feed", &[&[b'/', 0x30 + self.number], begin.as_bytes()].concat())];
-        script.extend(vec![filled; 4]);
-        script.extend([with_hex("feed", b"\r"), b"unit".to_vec()]);
-        script
+        let good = self.pick(&["z7R", "?0", "A5"]).as_bytes();
+        let part = with_hex("feed", &[b'0'; 16_384]);
+        let first = with_hex("feed", &[&[b'/', 0x30 + self.number], good].concat());
+        let last = with_hex("feed", &[&vec![b'0'; 16_384 - good.len()], good, b"\r"].concat());
+        vec![first, part.clone(), part.clone(), part, last, b"unit".to_vec()]
     }
 
     /// An image whose one fault is the length of an entry: 257, or 512 and more
@@ -196,10 +197,11 @@ impl Rare<'_> {
     /// A list of about 256 commands, at times with one at its end that cannot be
     /// read.
     fn long_list(&mut self) -> Vec<u8> {
-        let count = self.pick(&[170, 171, 255, 256, 256, 257, 257, 258, 300]);
+        let count = self.pick(&[170, 171, 253, 254, 255, 256, 256, 257, 257, 258, 300]);
         let item = if count < 200 { " g - G 0" } else { " g -" };
         let items = if count < 200 { count / 2 } else { count };
-        let end = self.pick(&["", "", "", "", " A 5", " L 0", " Q 1", " g"]);
+        let end =
+            self.pick(&["", "", "", " A 5", " L 0", " L 0 g -", " L 0 g -", " L 0 g - g -", " Q 1", " g"]);
         let run = self.pick(&["R", "-"]);
         format!("write - {run}{}{end}", item.repeat(items)).into_bytes()
     }
