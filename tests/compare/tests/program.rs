@@ -48,6 +48,24 @@ fn words_for_the_program() {
 }
 
 #[test]
+fn a_status_that_is_not_0() {
+    let script = format!("{}; exit 3", env!("CARGO_BIN_EXE_model"));
+    let output = compare(&["sh", "1", "10", "-c", &script], false);
+    let text = String::from_utf8(output.stdout).unwrap();
+    assert_eq!(output.status.code(), Some(1), "{text}");
+    assert!(text.starts_with("seed 1\ndisagreement at operation 10 (seed 1)\n"), "{text}");
+    assert!(text.contains("program, too: (exit status: 3)"), "{text}");
+}
+
+#[test]
+fn words_behind_a_question_mark() {
+    let script = format!("{} | sed 's/^? .*/? for another reason/'", env!("CARGO_BIN_EXE_model"));
+    let output = compare(&["sh", "1", "2000", "-c", &script], false);
+    let text = String::from_utf8(output.stdout).unwrap();
+    assert!(text.contains("\n2000 passed, "), "{text}");
+}
+
+#[test]
 fn arguments_that_cannot_be_used() {
     assert_eq!(compare(&[], false).status.code(), Some(2));
     assert_eq!(compare(&["./no such program"], false).status.code(), Some(2));
