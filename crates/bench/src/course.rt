@@ -6,7 +6,6 @@ use crate::telling;
 use crate::unit;
 use crate::unit::Stand;
 use crate::unit::Waited;
-use crate::unit::What;
 use libc::STDOUT_FILENO;
 use turns::Action;
 
@@ -77,10 +76,9 @@ fn goes_on(s: Stand, sample: u8) -> bool {
 
 // Whether an input is waited for that the sample does not have.
 fn is_kept(w: Waited, sample: u8) -> bool {
-    let what = w.what;
-    let What::Input = what else {
+    if w.what != unit::INPUT {
         return false;
-    };
+    }
     bit_of(sample, w.number % 10) != w.number / 10
 }
 
@@ -129,10 +127,9 @@ fn place_of(at: usize) -> u64 {
 
 // Adds the command that a turn takes: `-` where it serves a wait, `end` where none is left.
 fn add_taken(b: Bench, w: Waited, place: usize, out: &mut [u8], at: usize) -> usize {
-    let what = w.what;
-    let What::Nothing = what else {
+    if w.what != unit::NOTHING {
         return telling::add(out, at, b"-");
-    };
+    }
     let next = unit::add_command(b, place, out, at);
     if next == at {
         return telling::add(out, at, b"end");
@@ -158,25 +155,24 @@ fn add_doubt(known: bool, out: &mut [u8], at: usize) -> usize {
     telling::add(out, at, b"?")
 }
 
-// Adds what is waited for, and what is left of it.
+// Adds what is waited for, and what is left of it; of an input the level and the input.
 fn add_wait(w: Waited, out: &mut [u8], at: usize) -> usize {
-    let what = w.what;
     let n = w.number as u64;
-    match what {
-        What::Nothing => telling::add(out, at, b"none"),
-        What::Move => telling::add_number(out, at, b"move ", n),
-        What::Endless => telling::add_number(out, at, b"endless ", n),
-        What::Away => telling::add_number(out, at, b"away ", n),
-        What::Toward => telling::add_number(out, at, b"toward ", n),
-        What::Delay => telling::add_number(out, at, b"delay ", n),
-        What::Input => add_input(n, out, at),
+    let what = w.what;
+    let next = telling::add_nth(
+        out,
+        at,
+        b"none|move |endless |away |toward |delay |input ",
+        what,
+    );
+    if what == unit::NOTHING {
+        return next;
     }
-}
-
-// Adds the level and the input that are waited for.
-fn add_input(digits: u64, out: &mut [u8], at: usize) -> usize {
-    let next = telling::add_number(out, at, b"input ", digits / 10);
-    telling::add_number(out, next, b"", digits % 10)
+    if what == unit::INPUT {
+        let level = telling::add_number(out, next, b"", n / 10);
+        return telling::add_number(out, level, b"", n % 10);
+    }
+    telling::add_number(out, next, b"", n)
 }
 
 // How many turns were made, and how that ended.

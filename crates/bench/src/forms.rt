@@ -32,6 +32,9 @@ read HEX : read an answer packet
 /... : feed a line as it is typed, with a CR
 help : tell the operations";
 
+// The first fault that is one of a field.
+const FIRST_NAMED: usize = 3;
+
 // A row: its number from 0 on, that of no row where there is none, and where it begins.
 pub(crate) struct Row {
     pub(crate) number: usize,
@@ -253,29 +256,36 @@ fn fault_before(field: &[u8], end: usize) -> Fault {
 }
 
 fn is_fault(fault: Fault) -> bool {
-    let Fault::Nothing = fault else {
-        return true;
-    };
-    false
+    number_of(fault) != 0
 }
 
 // What is wrong, with the name of the field where there is one.
 fn tell_fault(fault: Fault, name: &[u8], out: &mut [u8]) -> usize {
-    match fault {
-        Fault::Nothing => telling::add(out, 0, b"?"),
-        Fault::TooMany => telling::add(out, 0, b"? a field too many"),
-        Fault::TooGreat => telling::add(out, 0, b"? too great"),
-        Fault::Missing => tell_named(name, b" is missing", out),
-        Fault::NoNumber => tell_named(name, b" is not a number", out),
-        Fault::OddHex => tell_named(name, b" has an odd digit", out),
-        Fault::NoHex => tell_named(name, b" is not hex", out),
-        Fault::NoRun => tell_named(name, b" is neither R nor -", out),
-        Fault::NoList => tell_named(name, b" has a bad command", out),
+    let k = number_of(fault);
+    if k < FIRST_NAMED {
+        return telling::add_nth(out, 0, b"?|? a field too many|? too great", k);
     }
-}
-
-fn tell_named(name: &[u8], why: &[u8], out: &mut [u8]) -> usize {
     let at = telling::add(out, 0, b"? ");
     let next = telling::add(out, at, name);
-    telling::add(out, next, why)
+    telling::add_nth(
+        out,
+        next,
+        b" is missing| is not a number| has an odd digit| is not hex| is neither R nor -| has a bad command",
+        k - FIRST_NAMED,
+    )
+}
+
+// The place of a fault's words among all.
+fn number_of(fault: Fault) -> usize {
+    match fault {
+        Fault::Nothing => 0,
+        Fault::TooMany => 1,
+        Fault::TooGreat => 2,
+        Fault::Missing => 3,
+        Fault::NoNumber => 4,
+        Fault::OddHex => 5,
+        Fault::NoHex => 6,
+        Fault::NoRun => 7,
+        Fault::NoList => 8,
+    }
 }

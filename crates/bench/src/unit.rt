@@ -42,12 +42,18 @@ fn started(b: Bench, s: StartedUnit) -> Bench {
 
 // What came of a start.
 fn tell_start(answer: StartAnswer, out: &mut [u8]) -> usize {
-    match answer {
-        StartAnswer::Started => telling::add(out, 0, b"started"),
-        StartAnswer::UnitNumber => telling::add(out, 0, b"refused unit-number"),
-        StartAnswer::ImageLength => telling::add(out, 0, b"refused image-length"),
-        StartAnswer::ImageBad => telling::add(out, 0, b"refused image-bad"),
-    }
+    let k = match answer {
+        StartAnswer::Started => 0,
+        StartAnswer::UnitNumber => 1,
+        StartAnswer::ImageLength => 2,
+        StartAnswer::ImageBad => 3,
+    };
+    telling::add_nth(
+        out,
+        0,
+        b"started|refused unit-number|refused image-length|refused image-bad",
+        k,
+    )
 }
 
 // An operation on the unit, where there is one.
@@ -123,11 +129,15 @@ fn feed(
 // What came of a feed.
 fn tell_feed(f: Fed, typed: bool, packet: &[u8], out: &mut [u8]) -> usize {
     let answer = f.answer;
-    match answer {
-        FeedAnswer::Taken => tell_fed(f.consumed, typed, packet, out),
-        FeedAnswer::BufferShort => telling::add(out, 0, b"refused buffer"),
-        FeedAnswer::ImageLength => telling::add(out, 0, b"refused image-length"),
+    let k = match answer {
+        FeedAnswer::Taken => 0,
+        FeedAnswer::BufferShort => 1,
+        FeedAnswer::ImageLength => 2,
+    };
+    if k == 0 {
+        return tell_fed(f.consumed, typed, packet, out);
     }
+    telling::add_nth(out, 0, b"|refused buffer|refused image-length", k)
 }
 
 // How many bytes were consumed, and the answer; of a typed line the answer alone, as text.
@@ -197,22 +207,36 @@ fn turn(b: Bench, sample: u8, ms: u32, steps: u32, image: &[u8], out: &mut [u8])
 
 // What came of a turn.
 fn tell_turn(answer: TurnAnswer, action: Action, out: &mut [u8]) -> usize {
-    match answer {
-        TurnAnswer::Taken => tell_action(action, 0, out),
-        TurnAnswer::ImageLength => telling::add(out, 0, b"refused image-length"),
-        TurnAnswer::Sample => telling::add(out, 0, b"refused sample"),
-        TurnAnswer::Steps => telling::add(out, 0, b"refused steps"),
+    let k = match answer {
+        TurnAnswer::Taken => 0,
+        TurnAnswer::ImageLength => 1,
+        TurnAnswer::Sample => 2,
+        TurnAnswer::Steps => 3,
+    };
+    if k == 0 {
+        return tell_action(action, 0, out);
     }
+    telling::add_nth(
+        out,
+        0,
+        b"|refused image-length|refused sample|refused steps",
+        k,
+    )
 }
 
 // The next motor action.
 pub(crate) fn tell_action(action: Action, at: usize, out: &mut [u8]) -> usize {
     let direction = action.direction;
-    match direction {
-        Direction::Up => telling::add_number(out, at, b"act up ", action.number as u64),
-        Direction::Down => telling::add_number(out, at, b"act down ", action.number as u64),
-        Direction::Still => telling::add(out, at, b"act none"),
+    let k = match direction {
+        Direction::Still => 0,
+        Direction::Up => 1,
+        Direction::Down => 2,
+    };
+    let next = telling::add_nth(out, at, b"act none|act up |act down ", k);
+    if k == 0 {
+        return next;
     }
+    telling::add_number(out, next, b"", action.number as u64)
 }
 
 // Where a unit stands between two turns.
@@ -230,19 +254,24 @@ pub(crate) struct Stand {
 
 // What a run waits for, and what is left of it; of an input its two digits.
 pub(crate) struct Waited {
-    pub(crate) what: What,
+    pub(crate) what: usize,
     pub(crate) number: u32,
 }
 
-pub(crate) enum What {
-    Nothing,
-    Move,
-    Endless,
-    Away,
-    Toward,
-    Delay,
-    Input,
-}
+// What a run can wait for, as `timeline` names it.
+pub(crate) const NOTHING: usize = 0;
+
+const MOVE: usize = 1;
+
+const ENDLESS: usize = 2;
+
+const AWAY: usize = 3;
+
+const TOWARD: usize = 4;
+
+const DELAY: usize = 5;
+
+pub(crate) const INPUT: usize = 6;
 
 // Where the unit stands.
 pub(crate) fn standing(b: Bench) -> Stand {
@@ -266,29 +295,29 @@ pub(crate) fn standing(b: Bench) -> Stand {
 // What a run waits for.
 fn waiting(wait: Wait) -> Waited {
     match wait {
-        Wait::Nothing => waits(What::Nothing, 0),
+        Wait::Nothing => waits(NOTHING, 0),
         Wait::Move { up, endless, left } => waits_for_move(endless, left),
         Wait::Leg { away, left, span } => waits_for_leg(away, left),
-        Wait::Delay(left) => waits(What::Delay, left),
-        Wait::Input(digits) => waits(What::Input, digits),
+        Wait::Delay(left) => waits(DELAY, left),
+        Wait::Input(digits) => waits(INPUT, digits),
     }
 }
 
 fn waits_for_move(endless: bool, left: u32) -> Waited {
     if endless {
-        return waits(What::Endless, left);
+        return waits(ENDLESS, left);
     }
-    waits(What::Move, left)
+    waits(MOVE, left)
 }
 
 fn waits_for_leg(away: bool, left: u32) -> Waited {
     if away {
-        return waits(What::Away, left);
+        return waits(AWAY, left);
     }
-    waits(What::Toward, left)
+    waits(TOWARD, left)
 }
 
-fn waits(what: What, number: u32) -> Waited {
+fn waits(what: usize, number: u32) -> Waited {
     Waited {
         what: what,
         number: number,
