@@ -29,12 +29,16 @@ pub(crate) const ROOM_MOST: usize = 512;
 
 const FIRST_ROOM: usize = 262;
 
+// What an answer buffer holds before anything is written in it.
+const BLANK: u8 = 0xa5;
+
 // The longest answer is `store` of the longest image.
 pub(crate) const ANSWER_BYTES: usize = 6 + 2 * IMAGE_MOST + 1;
 
 // The bench at its beginning: the image with all slots empty, and no unit but the record of a refused start.
-pub(crate) fn begin(image: &mut [u8]) -> Bench {
+pub(crate) fn begin(image: &mut [u8], buffer: &mut [u8]) -> Bench {
     let n = empty(image);
+    blank(buffer);
     let none = drive::start(0, image);
     let unit = none.unit;
     Bench {
@@ -51,6 +55,12 @@ pub(crate) fn empty(image: &mut [u8]) -> usize {
         image::clear(&mut image[0..EMPTY_BYTES]);
     }
     EMPTY_BYTES
+}
+
+// Makes the answer buffer one in which nothing was written.
+pub(crate) fn blank(buffer: &mut [u8]) {
+    let blanks = [BLANK; ROOM_MOST];
+    parts::put_at(buffer, 0, &blanks);
 }
 
 // The bench with another unit.
