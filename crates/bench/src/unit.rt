@@ -5,12 +5,12 @@ use crate::operation::OnUnit;
 use crate::state;
 use crate::state::Bench;
 use crate::state::Said;
+use crate::state::Whole;
 use crate::telling;
 use answers::Found;
 use drive::Fed;
 use drive::FeedAnswer;
 use drive::StartAnswer;
-use drive::StartedUnit;
 use drive::TurnAnswer;
 use motor::Wait;
 use turns::Action;
@@ -22,22 +22,29 @@ const NUMBERS: usize = 14;
 
 // `start N`
 pub(crate) fn start(b: Bench, number: u8, image: &[u8], out: &mut [u8]) -> Said {
-    let s = drive::start(number, image);
+    let w = b.whole;
+    let mut body = w.body;
+    let mut text = w.text;
+    let s = drive::start(number, image, &mut body, &mut text);
+    let unit = s.unit;
     let answer = s.answer;
+    let whole = Whole {
+        unit: unit,
+        body: body,
+        text: text,
+    };
     Said {
-        bench: started(b, s),
+        bench: started(b, answer, whole),
         length: tell_start(answer, out),
     }
 }
 
 // The bench after a start; a refused one leaves the unit as it was.
-fn started(b: Bench, s: StartedUnit) -> Bench {
-    let answer = s.answer;
+fn started(b: Bench, answer: StartAnswer, whole: Whole) -> Bench {
     let StartAnswer::Started = answer else {
         return b;
     };
-    let u = s.unit;
-    state::with_unit(b, u)
+    state::with_unit(b, whole)
 }
 
 // What came of a start.
@@ -116,12 +123,20 @@ fn feed(
     buffer: &mut [u8],
     out: &mut [u8],
 ) -> Said {
-    let u = b.unit;
-    let f = drive::feed(u, bytes, image, buffer);
-    let v = f.unit;
+    let w = b.whole;
+    let u = w.unit;
+    let mut body = w.body;
+    let mut text = w.text;
+    let f = drive::feed(u, &mut body, &mut text, bytes, image, buffer);
+    let unit = f.unit;
     let n = fields::up_to(f.answered, buffer);
+    let whole = Whole {
+        unit: unit,
+        body: body,
+        text: text,
+    };
     Said {
-        bench: state::with_unit(b, v),
+        bench: state::with_unit(b, whole),
         length: tell_feed(f, typed, &buffer[0..n], out),
     }
 }
@@ -181,13 +196,21 @@ pub(crate) struct Turned {
 
 // A turn.
 pub(crate) fn take_turn(b: Bench, sample: u8, ms: u32, steps: u32, image: &[u8]) -> Turned {
-    let u = b.unit;
-    let t = drive::turn(u, sample, ms, steps, image);
-    let v = t.unit;
+    let w = b.whole;
+    let u = w.unit;
+    let body = w.body;
+    let mut text = w.text;
+    let t = drive::turn(u, &mut text, sample, ms, steps, image);
+    let unit = t.unit;
     let action = t.action;
     let answer = t.answer;
+    let whole = Whole {
+        unit: unit,
+        body: body,
+        text: text,
+    };
     Turned {
-        bench: state::with_unit(b, v),
+        bench: state::with_unit(b, whole),
         action: action,
         answer: answer,
     }
@@ -275,7 +298,8 @@ pub(crate) const INPUT: usize = 6;
 
 // Where the unit stands.
 pub(crate) fn standing(b: Bench) -> Stand {
-    let u = b.unit;
+    let w = b.whole;
+    let u = w.unit;
     let c = u.core;
     let f = c.flow;
     let m = c.motor;
@@ -326,25 +350,33 @@ fn waits(what: usize, number: u32) -> Waited {
 
 // Adds the command at a place of the current text, as it was typed; `end` where none is left.
 pub(crate) fn add_command(b: Bench, place: usize, out: &mut [u8], at: usize) -> usize {
-    let u = b.unit;
+    let w = b.whole;
+    let u = w.unit;
     let c = u.core;
     let f = c.flow;
-    let text = u.text;
+    let text = w.text;
     add_typed(text, f.length, place, out, at)
 }
 
 // The same of a text: the first bytes of an array.
-fn add_typed(text: [u8; 256], length: usize, place: usize, out: &mut [u8], at: usize) -> usize {
+fn add_typed(
+    text: [u8; state::TEXT_BYTES],
+    length: usize,
+    place: usize,
+    out: &mut [u8],
+    at: usize,
+) -> usize {
     let n = fields::up_to(length, &text);
     telling::add(out, at, fields::command_at(&text[0..n], place))
 }
 
 // `unit`
 fn tell(b: Bench, out: &mut [u8]) -> usize {
-    let u = b.unit;
+    let w = b.whole;
+    let u = w.unit;
     let c = u.core;
     let f = c.flow;
-    let text = u.text;
+    let text = w.text;
     let at = tell_state(c.running, out);
     let next = tell_numbers(numbers_of(c), at, out);
     tell_text(text, f.length, next, out)
@@ -394,7 +426,7 @@ fn numbers_of(c: Core) -> [u32; NUMBERS] {
 }
 
 // The current text: the first bytes of an array.
-fn tell_text(text: [u8; 256], length: usize, at: usize, out: &mut [u8]) -> usize {
+fn tell_text(text: [u8; state::TEXT_BYTES], length: usize, at: usize, out: &mut [u8]) -> usize {
     let n = fields::up_to(length, &text);
     telling::add_bytes(out, at, b" text=", &text[0..n])
 }
