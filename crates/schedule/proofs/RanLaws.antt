@@ -16,7 +16,6 @@ use Rattle.courses.proofs.CourseLaws.{text-course}
 use Rattle.courses.proofs.SteadyLaws.{costs, commands-append, commands-length, one-way, in-order}
 use Rattle.courses.proofs.StandLaws.{Open, Next, back, on, stands-now, stands-last, next-stands}
 use Rattle.courses.proofs.FlowLaws.{loopsOf, Taken, begun-taken}
-use Rattle.turns.specs.declared.Core.{Core}
 use Rattle.turns.specs.declared.Enter.{Enter}
 use Rattle.turns.specs.Turns.{withMotor, textAfter}
 use Rattle.turns.specs.Ends.{Reads}
