@@ -11,7 +11,7 @@ use Rattle.drive.specs.Calls.{turnOf}
 use Rattle.runs.specs.Reach.{Feed, Turn, after}
 use Rattle.runs.specs.Causes.{Made}
 use Rattle.effects.specs.Bodies.{EachBody}
-use Rattle.effects.specs.Turns.{SameRun, EachCommand, EachWait, Answers}
+use Rattle.effects.specs.Turns.{SameRun, aTurn, EachCommand, EachWait, Answers}
 
 pub record EffectClaims : Type 0 where
   pub bodies : (c : Core) (text image : List ℕ) → EachBody c text image
@@ -22,8 +22,8 @@ pub record EffectClaims : Type 0 where
       → SameRun u (after (Turn sample ms steps image) u)
   pub idles : (u : Drive) (sample ms steps : ℕ) (image : List ℕ) → u .core .running ≡ false → SameRun u (after (Turn sample ms steps image) u)
   pub waits : (u : Drive) (sample ms steps : ℕ) (image : List ℕ) → u .core .running ≡ true → Made u sample steps image
-      → EachWait u sample ms steps image
+      → EachWait (aTurn u sample ms steps image)
   pub commands : (u : Drive) (sample ms steps : ℕ) (image : List ℕ) → u .core .running ≡ true → Made u sample steps image
-      → EachCommand u sample ms steps image
+      → EachCommand (aTurn u sample ms steps image)
   pub answers : (u : Drive) (sample ms steps : ℕ) (image : List ℕ) → Made u sample steps image
       → Answers (turnOf u sample ms steps image)
