@@ -1,34 +1,31 @@
 -- Every reached unit has a sound receiver, a number of 1 to 16 and numbers that fit, and a frame typed to it obeys its body. Assumes nothing.
 use Prim.Native.Nat.{ℕ, _≤_}
-use mathlib.Core.Path.{_≡_, refl, sym, ap, subst, _∙_}
+use mathlib.Core.Path.{_≡_, ap, _∙_}
 use mathlib.Core.List.{List}
-use mathlib.Core.Bool.{true, false}
+use mathlib.Core.Bool.{true}
 use native.Mathlib.Omega.{arith}
 use lib.Dec.{ltb}
-use lib.ListN.{length, take}
+use lib.ListN.{length}
 use lib.Seq.{take-all}
 use borrow.Author.Tests.{le-ltb}
 use Rattle.parts.proofs.Laws.{cases}
 use Rattle.lines.specs.Texts.{mostBytes}
 use Rattle.lines.proofs.TakenLaws.{no}
-use Rattle.image.specs.Image.{rightLength, slots, slotsGood}
+use Rattle.image.specs.Image.{rightLength}
 use Rattle.answers.specs.Packet.{packetBytes}
 use Rattle.frames.specs.declared.Frame.{Frame}
 use Rattle.frames.specs.Addresses.{isUnit, unitByte, calledOf}
 use Rattle.frames.specs.Receive.{mostKept, bodyIn, obeyed}
 use Rattle.frames.specs.Claims.{Sound, plain, frameOf, FrameClaims}
-use Rattle.turns.specs.declared.Core.{Core}
 use Rattle.obeying.specs.declared.Obeyed.{Obeyed}
 use Rattle.obeying.specs.Obeying.{bodyObeyed}
 use Rattle.drive.specs.declared.StartAnswer.{StartAnswer}
 use Rattle.drive.specs.Unit.{Drive}
 use Rattle.drive.specs.Calls.{Starting, freshUnit, startOf, receivedBy, frameObeyed, obeyedBy, answerTo, Feeding, feedTaken, feedOf, Turning}
 use Rattle.drive.proofs.StartLaws.{started-unit}
-use Rattle.stream.specs.Fits.{Fits}
 use Rattle.stream.proofs.FitLaws.{fits-kept}
 use Rattle.keeping.proofs.CallLaws.{calls-keep}
 use Rattle.runs.specs.Reach.{Call, Feed, Turn, after, Reached, fresh, called}
-use Rattle.runs.specs.Packets.{answeredBy}
 use Rattle.runs.proofs.CallLaws.{turn-cases}
 use Rattle.runs.proofs.ReachLaws.{reached-keeps, reached-sound, reached-fit}
 use Rattle.runs.proofs.PacketLaws.{answer-is}
