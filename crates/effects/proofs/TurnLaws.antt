@@ -5,7 +5,7 @@ use mathlib.Core.List.{List}
 use mathlib.Core.Bool.{Bool, true, false, cond, false≢true}
 use native.Mathlib.Omega.{arith}
 use lib.ListN.{length, set}
-use lib.Dec.{leb, eqb}
+use lib.Dec.{ltb, leb, eqb}
 use borrow.Author.Tests.{le-ltb, lt-ltb, le-leb, lt-leb, eq-eqb, ne-eqb, eqb-true}
 use Rattle.parts.proofs.Laws.{cases}
 use Rattle.commands.specs.declared.Command.{Command}
@@ -14,7 +14,7 @@ use Rattle.commands.specs.declared.Read.the-variants.{At, Bad, End}
 use Rattle.commands.specs.Table.{top, table, find, commandOf}
 use Rattle.commands.specs.Reading.{readAt}
 use Rattle.commands.proofs.TableLaws.{exponent-complete}
-use Rattle.frames.specs.Receive.{bodyIn}
+use Rattle.frames.specs.Receive.{Receiver, bodyIn}
 use Rattle.image.specs.Image.{slotGood, slotText}
 use Rattle.flow.specs.declared.Flow.{Flow}
 use Rattle.flow.specs.declared.Flowed.{Flowed}
@@ -25,22 +25,24 @@ use Rattle.motor.specs.declared.Last.{Last}
 use Rattle.motor.specs.declared.Moved.{Moved}
 use Rattle.motor.specs.declared.Moved.the-variants.{Goes, Stops}
 use Rattle.motor.specs.Inputs.{levelThere, falls, cut}
-use Rattle.motor.specs.Motion.{last, waiting, placedAt, actionOf, room, reported, finite, homed, movedOn, relative, absolute, delayed, held, delayOn, endlessOn, legOn, awaited, legEnded, stopped, served}
+use Rattle.motor.specs.Motion.{fresh, last, waiting, placedAt, actionOf, room, reported, finite, homed, movedOn, relative, absolute, delayed, held, delayOn, endlessOn, legOn, awaited, legEnded, stopped, served}
 use Rattle.turns.specs.declared.Core.{Core}
 use Rattle.turns.specs.declared.Settings.{Settings}
 use Rattle.turns.specs.declared.Stepped.{Stepped}
 use Rattle.turns.specs.declared.Action.{Action}
 use Rattle.turns.specs.declared.Direction.{Direction}
-use Rattle.turns.specs.Settings.{withSpeed, withAcceleration, withFlag, withTurned, withMoveCurrent, withHoldCurrent, withExponent, withCorrection, withOutputs, withBaud}
-use Rattle.turns.specs.Turns.{withFlow, withMotor, withSettings, ended, astray, moved, acted, flowed, skipped, jumped, skipTaken, commandTaken, stays, settled, isFree, stepOf, turnCore, textAfter, actionAnswered}
+use Rattle.turns.specs.Settings.{defaults, withSpeed, withAcceleration, withFlag, withTurned, withMoveCurrent, withHoldCurrent, withExponent, withCorrection, withOutputs, withBaud}
+use Rattle.turns.specs.Turns.{freshCore, started, withFlow, withMotor, withSettings, ended, astray, moved, acted, flowed, skipped, jumped, skipTaken, commandTaken, stays, settled, isFree, stepOf, turnCore, textAfter, actionAnswered}
 use Rattle.turns.specs.Ends.{Reads}
 use Rattle.turns.proofs.MoveLaws.{clash}
 use Rattle.turns.proofs.TurnLaws.{at-wait, turn-last}
 use Rattle.obeying.specs.declared.Obeyed.{Obeyed}
 use Rattle.obeying.specs.Obeying.{textWritten}
 use Rattle.obeying.specs.Deeds.{Obeys, refuses, tells, stores, clears, stops, resumes, again, loads}
-use Rattle.drive.specs.Unit.{Drive}
-use Rattle.drive.specs.Calls.{mostSample, receivedBy, Turning, turnTaken, turnOf}
+use Rattle.drive.specs.declared.StartAnswer.{StartAnswer}
+use Rattle.drive.specs.Unit.{Drive, drive}
+use Rattle.drive.specs.Calls.{freshUnit, startOf, mostSample, receivedBy, Turning, turnTaken, turnOf}
+use Rattle.drive.proofs.StartLaws.{started-unit}
 use Rattle.drive.proofs.FeedLaws.{frame-does}
 use Rattle.keeping.proofs.TurnLaws.{free}
 use Rattle.runs.specs.Reach.{Feed, Turn, after, textOf}
@@ -49,7 +51,49 @@ use Rattle.runs.proofs.CallLaws.{feed-cases, turn-cases, turn-made}
 use Rattle.runs.proofs.CommandLaws.{turned}
 use Rattle.effects.specs.Bodies.{homing}
 use Rattle.effects.specs.Turns as effects
-use Rattle.effects.specs.Turns.{SameRun, Letter, Homes, Keeps, Flowing, listed, Plainly, SetsOne, then, Takes, here, Leads, Sets, ATurn, aTurn, EachCommand, EachWait, Resting, Answers}
+use Rattle.effects.specs.Turns.{Defaults, SameRun, Letter, Homes, Keeps, Flowing, listed, Plainly, SetsOne, then, Takes, here, Leads, Sets, ATurn, aTurn, EachCommand, EachWait, Resting, Answers}
+
+-- ---- a fresh start
+
+-- the same of a core
+abbrev Fresh : Core → Type 0
+Fresh c = (number : ℕ) (r : Receiver) (text : List ℕ) → Defaults (drive number r text c)
+
+fresh-core : Fresh freshCore
+unfolding freshCore begun fresh defaults
+fresh-core number r text = record {
+  settings = refl;
+  sample = refl;
+  position = refl;
+  known = refl;
+  free = refl;
+  no-action = refl;
+  not-loaded = refl;
+  code = refl;
+  first = refl;
+  none-open = refl;
+}
+
+started-core : (n : ℕ) → Fresh (started n freshCore)
+unfolding started freshCore begun fresh defaults
+started-core n number r text = record {
+  settings = refl;
+  sample = refl;
+  position = refl;
+  known = refl;
+  free = refl;
+  no-action = refl;
+  not-loaded = refl;
+  code = refl;
+  first = refl;
+  none-open = refl;
+}
+
+pub start-defaults : (number : ℕ) (image body text : List ℕ) → startOf number image body text .answer ≡ StartAnswer.Started → Defaults (startOf number image body text .unit)
+unfolding freshUnit
+start-defaults number image body text e =
+    let n : ℕ = length (slotText image 0) in
+    subst Defaults (sym (started-unit number image body text e)) (cases Fresh (ltb 0 n) (λ q. started-core n) (λ q. fresh-core) number _ _)
 
 -- ---- calls that leave the run where it is
 

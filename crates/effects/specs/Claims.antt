@@ -7,13 +7,16 @@ use mathlib.Core.Bool.{true, false}
 use Rattle.motor.specs.declared.Wait.{Wait}
 use Rattle.turns.specs.declared.Core.{Core}
 use Rattle.drive.specs.Unit.{Drive}
-use Rattle.drive.specs.Calls.{turnOf}
+use Rattle.drive.specs.declared.StartAnswer.{StartAnswer}
+use Rattle.drive.specs.Calls.{startOf, turnOf}
 use Rattle.runs.specs.Reach.{Feed, Turn, after}
 use Rattle.runs.specs.Causes.{Made}
 use Rattle.effects.specs.Bodies.{EachBody}
-use Rattle.effects.specs.Turns.{SameRun, aTurn, EachCommand, EachWait, Answers}
+use Rattle.effects.specs.Turns.{Defaults, SameRun, aTurn, EachCommand, EachWait, Answers}
 
 pub record EffectClaims : Type 0 where
+  pub defaults : (number : ℕ) (image body text : List ℕ) → startOf number image body text .answer ≡ StartAnswer.Started
+      → Defaults (startOf number image body text .unit)
   pub bodies : (c : Core) (text image : List ℕ) → EachBody c text image
   -- "They are obeyed while running": no feed call moves a run
   pub feeds : (u : Drive) (bytes image buffer : List ℕ) → u .core .running ≡ true → SameRun u (after (Feed bytes image buffer) u)

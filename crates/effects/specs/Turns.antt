@@ -54,6 +54,19 @@ listed s =
     ∷ s .baud
     ∷ []
 
+-- "Defaults: V 305175, L 1000, j 256, o 1500, m 25, h 10, last sample 15, all else 0, baud 9600": of a unit that was started; 256 is 2 to the 8
+pub record Defaults (u : Drive) : Type 0 where
+  pub settings : listed (u .core .settings) ≡ 305175 ∷ 1000 ∷ 0 ∷ 0 ∷ 25 ∷ 10 ∷ 8 ∷ 1500 ∷ 0 ∷ 9600 ∷ []
+  pub sample : u .core .motor .sample ≡ 15
+  pub position : u .core .motor .position ≡ 0
+  pub known : u .core .motor .known ≡ true
+  pub free : u .core .motor .wait ≡ Wait.Nothing
+  pub no-action : u .core .motor .last .number ≡ 0
+  pub not-loaded : u .core .loaded ≡ false
+  pub code : u .core .code ≡ 0
+  pub first : u .core .flow .at ≡ 0
+  pub none-open : u .core .flow .depth ≡ 0
+
 -- ---- one turn: u becomes v, with this sample
 
 -- the run goes on in its text: what is waited for next, where the position is and whether it is known
