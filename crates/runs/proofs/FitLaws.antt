@@ -10,9 +10,8 @@ use Rattle.parts.proofs.Laws.{cases, length-padded}
 use Rattle.digits.specs.Operand.{widest}
 use Rattle.lines.specs.Texts.{mostBytes}
 use Rattle.image.specs.Image.{slotText}
-use Rattle.motor.specs.declared.Wait.{Wait}
 use Rattle.motor.specs.declared.Motor.{Motor}
-use Rattle.motor.specs.Motion.{fresh, reported, abandoned, stopped}
+use Rattle.motor.specs.Motion.{fresh, reported, stopped}
 use Rattle.turns.specs.declared.Settings.{Settings}
 use Rattle.turns.specs.declared.Core.{Core}
 use Rattle.turns.specs.declared.Stepped.{Stepped}
@@ -69,14 +68,7 @@ sample-same (places p l) = refl
 
 ended-fit : (k : ℕ) (c : Core) → Fit c → k < codeValues → Fit (ended k c)
 unfolding ended stopped
-ended-fit k c h l = record { settings = h .settings; sample = rw (go (c .motor .wait)) (h .sample); code = l }
-  where
-    go : (w : Wait) → abandoned w (c .motor) .sample ≡ c .motor .sample
-    go Wait.Nothing = refl
-    go (Wait.Move up endless left) = refl
-    go (Wait.Leg away left n) = refl
-    go (Wait.Delay left) = refl
-    go (Wait.Input digits) = refl
+ended-fit k c h l = record { settings = h .settings; sample = h .sample; code = l }
 
 does-fit : {steps : ℕ} {t : List ℕ} {c d : Core} → Fit c → Does steps t c d → Fit d
 does-fit h (goes l m s) = record { settings = settings-fit (h .settings) s; sample = rw (sample-same m) (h .sample); code = h .code }

@@ -15,9 +15,8 @@ use Rattle.answers.specs.Packet.{packet, tail, mostData, packetBytes}
 use Rattle.image.specs.Image.{slotText}
 use Rattle.frames.specs.declared.Frame.{Frame}
 use Rattle.frames.specs.Receive.{Received, bodyIn}
-use Rattle.motor.specs.declared.Wait.{Wait}
 use Rattle.motor.specs.declared.Motor.{Motor}
-use Rattle.motor.specs.Motion.{fresh, room, counted, reported, abandoned, stopped}
+use Rattle.motor.specs.Motion.{fresh, room, counted, reported, stopped}
 use Rattle.turns.specs.declared.Core.{Core}
 use Rattle.turns.specs.declared.Settings.{Settings}
 use Rattle.turns.specs.declared.Stepped.{Stepped}
@@ -71,14 +70,7 @@ settings-fit f (other l k t m h p b) = f
 -- a run's stop leaves the position and the sample
 ended-fits : (code : ℕ) (c : Core) → FitsCore c → FitsCore (ended code c)
 unfolding ended stopped
-ended-fits code c f = record { motor = go (c .motor .wait); settings = f .settings }
-  where
-    go : (w : Wait) → FitsMotor (abandoned w (c .motor))
-    go Wait.Nothing = f .motor
-    go (Wait.Move up endless left) = f .motor
-    go (Wait.Leg away left n) = f .motor
-    go (Wait.Delay left) = f .motor
-    go (Wait.Input digits) = f .motor
+ended-fits code c f = record { motor = f .motor; settings = f .settings }
 
 does-fits : {steps : ℕ} {t : List ℕ} {c d : Core} → FitsCore c → Does steps t c d → FitsCore d
 does-fits f (goes l m s) = record { motor = motor-fits (f .motor) m; settings = settings-fit (f .settings) s }

@@ -24,7 +24,7 @@ use Rattle.motor.specs.declared.Motor.{Motor}
 use Rattle.motor.specs.declared.Moved.{Moved}
 use Rattle.motor.specs.declared.Moved.the-variants.{Goes, Stops}
 use Rattle.motor.specs.Inputs.{levelThere}
-use Rattle.motor.specs.Motion.{waiting, placedAt, reported, answered, relative, absolute, ifKnown, homed, delayed, held, served, stopped, fresh}
+use Rattle.motor.specs.Motion.{waiting, placedAt, reported, isFree, answered, relative, absolute, ifKnown, homed, delayed, held, served, stopped, fresh}
 use Rattle.turns.specs.declared.Settings.{Settings}
 use Rattle.turns.specs.declared.Core.{Core}
 use Rattle.turns.specs.declared.Enter.{Enter}
@@ -132,14 +132,6 @@ readTaken (Bad f) t image c = stays (astray c)
 readTaken End t image c = stays (ended (c .code) c)
 
 -- ---- a turn
-
--- nothing is waited for
-abbrev pub isFree : Wait → Bool
-isFree Wait.Nothing = true
-isFree (Wait.Move up endless left) = false
-isFree (Wait.Leg away left n) = false
-isFree (Wait.Delay left) = false
-isFree (Wait.Input digits) = false
 
 -- "A turn either serves that wait or takes exactly one command"; the report is counted already
 unfoldable pub running : ℕ → ℕ → ℕ → List ℕ → List ℕ → Core → Stepped
