@@ -27,18 +27,23 @@ pub enum Act {
     MoveDown(u32),
     SetPosition(u32),
     Home(u32),
-    TopSpeed(u32),
-    Acceleration(u32),
-    FlagLevel(u32),
-    Turned(u32),
-    MoveCurrent(u32),
-    HoldCurrent(u32),
-    StepSize(u32),
-    Correction(u32),
-    Outputs(u32),
-    Baud(u32),
+    Set(u32, Setting),
     Delay(u32),
     WaitInput(u32),
+}
+
+// What a command sets: a variant each, its letter and range in `table.rt`.
+pub enum Setting {
+    TopSpeed,
+    Acceleration,
+    FlagLevel,
+    Turned,
+    MoveCurrent,
+    HoldCurrent,
+    StepSize,
+    Correction,
+    Outputs,
+    Baud,
 }
 
 // Why a line is refused: 2 or 3.
@@ -76,6 +81,12 @@ pub enum Asks {
     OrElse(Range, u32),
 }
 
+// A letter's row: what it asks, and its command before the number is known.
+struct Lettered {
+    asks: Asks,
+    command: Command,
+}
+
 // The exponent of a power of two from 1 to 256.
 pub enum Exponent {
     Power(u32),
@@ -106,9 +117,12 @@ pub fn read_command(s: &[u8], at: usize) -> Read
         return Read::End;
     }
     let letter = s[at];
-    let fitted = fitting::fit_at(table::asks_of(letter), s, at + 1);
+    let row = table::row_of(letter);
+    let asks = row.asks;
+    let command = row.command;
+    let fitted = fitting::fit_at(asks, s, at + 1);
     match fitted {
-        Fitted::Fits(n, next) => Read::At(table::command_of(letter, n), next),
+        Fitted::Fits(n, next) => Read::At(fitting::numbered(command, n), next),
         Fitted::Fails(code) => Read::Bad(Fault { code: code }),
     }
 }

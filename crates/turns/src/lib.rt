@@ -10,20 +10,7 @@ use flow::Flow;
 use motor::Last;
 use motor::Motor;
 use motor::Wait;
-
-// V L f F m h j o J b; of j the exponent.
-pub struct Settings {
-    pub speed: u32,
-    pub acceleration: u32,
-    pub flag: u32,
-    pub turned: u32,
-    pub moving: u32,
-    pub holding: u32,
-    pub exponent: u32,
-    pub correction: u32,
-    pub outputs: u32,
-    pub baud: u32,
-}
+use setting::Settings;
 
 // A unit's record but for its number, its receiver and its text.
 pub struct Core {
