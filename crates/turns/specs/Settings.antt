@@ -8,7 +8,7 @@ use Rattle.commands.specs.declared.Setting.the-variants.{TopSpeed, Acceleration
 use Rattle.commands.specs.declared.Exponent.{Exponent}
 use Rattle.commands.specs.declared.Exponent.the-variants.{Power, NoPower}
 use Rattle.commands.specs.Table.{settingLetter, exponentOf}
-use Rattle.turns.specs.declared.Settings.{Settings}
+use Rattle.turns.specs.declared.setting.Settings.{Settings}
 
 -- the record of a number for each setting
 abbrev pub settingsBy : (Setting → ℕ) → Settings

@@ -24,7 +24,7 @@ use Rattle.motor.specs.declared.Moved.{Moved}
 use Rattle.motor.specs.declared.Moved.the-variants.{Goes, Stops}
 use Rattle.motor.specs.Inputs.{levelThere}
 use Rattle.motor.specs.Motion.{waiting, placedAt, reported, answered, relative, absolute, ifKnown, homed, delayed, held, served, stopped, fresh}
-use Rattle.turns.specs.declared.Settings.{Settings}
+use Rattle.turns.specs.declared.setting.Settings.{Settings}
 use Rattle.turns.specs.declared.Core.{Core}
 use Rattle.turns.specs.declared.Enter.{Enter}
 use Rattle.turns.specs.declared.Enter.the-variants.{Stay, Into}
