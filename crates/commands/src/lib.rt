@@ -5,7 +5,7 @@ mod writing;
 
 ghost use mathlib.Core.Path.{_≡_};
 ghost use Rattle.digits.specs.Decimal.{WrittenIs};
-ghost use Rattle.commands.specs.Table.{exponentOf};
+ghost use Rattle.commands.specs.Table.{namedOf, exponentOf};
 ghost use Rattle.commands.specs.Reading.{readAt};
 ghost use Rattle.commands.specs.Writing.{spelled};
 ghost use Rattle.commands.specs.Claims.{CommandClaims};
@@ -56,6 +56,12 @@ pub enum Read {
     At(Command, usize),
     Bad(Fault),
     End,
+}
+
+// The command of a letter, where it has one.
+pub enum Named {
+    Is(Command),
+    NoCommand,
 }
 
 // Which numbers an operand may be.
@@ -124,6 +130,21 @@ pub fn read_command(s: &[u8], at: usize) -> Read
     match fitted {
         Fitted::Fits(n, next) => Read::At(fitting::numbered(command, n), next),
         Fitted::Fails(code) => Read::Bad(Fault { code: code }),
+    }
+}
+
+// The command of a letter with any number, in its range or not.
+pub fn command_of(letter: u8, n: u32) -> Named
+    ensures { λ r. ⌜ r ≡ namedOf letter n ⌝ }
+{
+    let row = table::row_of(letter);
+    let asks = row.asks;
+    let command = row.command;
+    match asks {
+        Asks::Unknown => Named::NoCommand,
+        Asks::Nothing => Named::Is(fitting::numbered(command, n)),
+        Asks::Required(_) => Named::Is(fitting::numbered(command, n)),
+        Asks::OrElse(_, _) => Named::Is(fitting::numbered(command, n)),
     }
 }
 
