@@ -86,6 +86,11 @@ impl Move {
         self.endless
     }
 
+    /// The microsteps that are left.
+    pub fn left(self) -> u32 {
+        self.left
+    }
+
     fn motion(self) -> Motion {
         Motion { number: self.left, direction: self.direction, homing: false }
     }
