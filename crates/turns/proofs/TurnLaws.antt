@@ -10,7 +10,7 @@ use Rattle.parts.proofs.Laws.{cases}
 use Rattle.commands.specs.declared.Command.{Command}
 use Rattle.commands.specs.declared.Command.the-variants.{LoopBegin, LoopEnd, Skip, Jump, Plain}
 use Rattle.commands.specs.declared.Act.{Act}
-use Rattle.commands.specs.declared.Act.the-variants.{MoveTo, MoveUp, MoveDown, SetPosition, Home, TopSpeed, Acceleration, FlagLevel, Turned, MoveCurrent, HoldCurrent, StepSize, Correction, Outputs, Baud, Delay, WaitInput}
+use Rattle.commands.specs.declared.Act.the-variants.{MoveTo, MoveUp, MoveDown, SetPosition, Home, Set, Delay, WaitInput}
 use Rattle.commands.specs.declared.Read.{Read}
 use Rattle.commands.specs.declared.Read.the-variants.{At, Bad, End}
 use Rattle.commands.specs.Reading.{readAt}
@@ -98,16 +98,7 @@ module _ (sample ms steps : ℕ) (t image : List ℕ) (c : Core) where
       (move-ends (MoveDown n) next (relative false n then) r (moveDown n) (λ k e. let s = relative-stops false n then e in (s .0, below n (s .2))))
   act-ends (SetPosition n) next r h = clash h
   act-ends (Home n) next r h = clash h
-  act-ends (TopSpeed n) next r h = clash h
-  act-ends (Acceleration n) next r h = clash h
-  act-ends (FlagLevel n) next r h = clash h
-  act-ends (Turned n) next r h = clash h
-  act-ends (MoveCurrent n) next r h = clash h
-  act-ends (HoldCurrent n) next r h = clash h
-  act-ends (StepSize n) next r h = clash h
-  act-ends (Correction n) next r h = clash h
-  act-ends (Outputs n) next r h = clash h
-  act-ends (Baud n) next r h = clash h
+  act-ends (Set n which) next r h = clash h
   act-ends (Delay n) next r h = clash h
   act-ends (WaitInput n) next r h = clash h
 
