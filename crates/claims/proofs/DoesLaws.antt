@@ -14,6 +14,7 @@ use Rattle.lines.proofs.TakenLaws.{stored}
 use Rattle.lines.proofs.TakenLaws as taken
 use Rattle.image.specs.Image.{slots}
 use Rattle.image.specs.Claims.{ImageClaims}
+use Rattle.flow.specs.Flow.{begun}
 use Rattle.turns.specs.declared.Core.{Core}
 use Rattle.turns.specs.Turns.{started}
 use Rattle.obeying.specs.declared.Write.{Write}
@@ -32,12 +33,12 @@ module _ (b : List ℕ) (c : Core) (text image : List ℕ) (is-line : bodyOf b �
       ∙ ap (λ (r : Bool). cond r (obeying.refused obeying.busy c) (lineObeyed (lineOf b) c)) idle
       ∙ ap (λ (x : Taken). lineObeyed x c) e
 
-  loaded : (n : ℕ) (run : Bool) → take n (paddedText (take n b)) ≡ take n b → Loads b n run c text (writing (Write.Text n) (loadedFor run n c))
-  unfolding started loadedAs
-  loaded n true e = record { becomes = e; begins = refl; runs = refl; loaded = refl; code = refl; motor-same = refl; settings-same = refl }
-  loaded n false e = record { becomes = e; begins = refl; runs = refl; loaded = refl; code = refl; motor-same = refl; settings-same = refl }
+  loaded : (n : ℕ) (run : Bool) → take n (paddedText (take n b)) ≡ take n b → Loads b n run c text image (writing (Write.Text n) (loadedFor run n c))
+  unfolding started loadedAs begun
+  loaded n true e = record { becomes = e; text-length = refl; begins = refl; none-open = refl; runs = refl; loaded = refl; code = refl; motor-same = refl; settings-same = refl; image-same = refl }
+  loaded n false e = record { becomes = e; text-length = refl; begins = refl; none-open = refl; runs = refl; loaded = refl; code = refl; motor-same = refl; settings-same = refl; image-same = refl }
 
-  loads : (n : ℕ) (run : Bool) → lineOf b ≡ Taken.Line n run → Loads b n run c text (bodyObeyed b c)
+  loads : (n : ℕ) (run : Bool) → lineOf b ≡ Taken.Line n run → Loads b n run c text image (bodyObeyed b c)
   loads n run e =
       let o = obeyed-as (Taken.Line n run) e in
       let from = taken.held b n run e in
@@ -56,6 +57,7 @@ module _ (b : List ℕ) (c : Core) (text image : List ℕ) (is-line : bodyOf b �
         unit-same = ap (λ (x : Obeyed). x .core) o;
         text-same = ap (λ (x : Obeyed). textWritten (x .write) b text) o;
         stored = λ right. rw o (s .holds (s .done right l (from .good)) .text (from .good));
+        elsewhere = λ j h q. rw o (s .elsewhere j h q);
         stays-good = λ good. rw o (s .stays-good good (from .good));
       }
 

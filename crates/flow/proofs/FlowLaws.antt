@@ -1,15 +1,15 @@
--- A flow over a checked text: the open loops are those that enclose its place, each below its count, and no command goes astray.
+-- A flow over a checked text: the open loops are those that enclose its place, and no command goes astray.
 -- Assumes nothing.
-use Prim.Native.Nat.{ℕ, zero, suc, _+_, _-_, _≤_, _<_}
+use Prim.Native.Nat.{ℕ, zero, suc, _-_, _≤_, _<_}
 use mathlib.Core.Path.{_≡_, refl, sym, ap, _∙_}
 use mathlib.Core.List.{List}
-use mathlib.Core.Bool.{Bool, true, false, _||_}
+use mathlib.Core.Bool.{true}
 use native.Mathlib.Omega.{arith}
 use native.Mathlib.Numerals.{add-one}
-use lib.Dec.{ltb, eqb}
+use lib.Dec.{eqb}
 use lib.ListN.{length, getD, set, length-set}
 use lib.Seq.{getD-set-same, getD-set-other}
-use borrow.Author.Tests.{ltb-true, ltb-false, eqb-true, eqb-false, lt-ltb, le-leb}
+use borrow.Author.Tests.{lt-ltb, le-leb}
 use Rattle.parts.proofs.Laws.{cases}
 use Rattle.commands.specs.declared.Command.{Command}
 use Rattle.commands.specs.declared.Command.the-variants.{LoopBegin, LoopEnd, Skip, Jump, Plain}
@@ -18,16 +18,15 @@ use Rattle.commands.specs.declared.Read.the-variants.{At, Bad, End}
 use Rattle.commands.specs.Reading.{readAt}
 use Rattle.commands.proofs.ReadingLaws.{read-step}
 use Rattle.lines.specs.Texts.{mostOpen}
-use Rattle.lines.specs.Loops.{Enclosed, start, next, after, enclosing, countOf, Checked, Skippable}
-use Rattle.lines.proofs.LoopLaws.{lawful, at-most-four, backs, count-here, enclosed-by}
+use Rattle.lines.specs.Loops.{Enclosed, start, next, after, enclosing, Checked, Skippable}
+use Rattle.lines.proofs.LoopLaws.{lawful, at-most-four, backs, enclosed-by}
 use Rattle.flow.specs.declared.Flow.{Flow}
-use Rattle.flow.specs.Flow.{begun, gone, opened, again, bumped, backed, left, closed, goes, loopBegun, loopEnded, opens, Below, Counts, EndsLoop, returns, leaves}
+use Rattle.flow.specs.Flow.{begun, gone, opened, again, bumped, backed, left, closed, goes, loopBegun, loopEnded, opens}
 
 -- what holds of a flow before each command
 pub record FlowOk (t : List ℕ) (f : Flow) : Type 0 where
   pub checked : Checked t
   pub place : Enclosed t (f .at) (opens (f .depth) (f .starts))
-  pub counts : Counts t (f .depth) (f .starts) (f .dones)
   pub starts4 : length (f .starts) ≡ mostOpen
   pub dones4 : length (f .dones) ≡ mostOpen
   pub length : f .length ≡ length t
@@ -43,56 +42,26 @@ opens-set : (d i x : ℕ) (s : List ℕ) → d ≤ i → opens d (set s i x) ≡
 opens-set zero i x s h = refl
 opens-set (suc d) i x s h = rw (getD-set-other s i d x 0 (omega arith), opens-set d i x s (omega arith))
 
-counts-starts : (t : List ℕ) (d i x : ℕ) (s dn : List ℕ) → d ≤ i → Counts t d s dn → Counts t d (set s i x) dn
-counts-starts t zero i x s dn h c = tt
-counts-starts t (suc d) i x s dn h c = (rw (getD-set-other s i d x 0 (omega arith)) (c .0), counts-starts t d i x s dn (omega arith) (c .1))
-
-counts-dones : (t : List ℕ) (d i x : ℕ) (s dn : List ℕ) → d ≤ i → Counts t d s dn → Counts t d s (set dn i x)
-counts-dones t zero i x s dn h c = tt
-counts-dones t (suc d) i x s dn h c = (rw (getD-set-other dn i d x 0 (omega arith)) (c .0), counts-dones t d i x s dn (omega arith) (c .1))
-
 -- "at most four open"
 pub depth-most : {t : List ℕ} {f : Flow} → FlowOk t f → f .depth ≤ mostOpen
 depth-most {t} {f} h = omega (arith, at-most-four (h .checked) (h .place), opens-length (f .depth) (f .starts))
 
 -- ---- the count of a loop
 
-again-below : (m done : ℕ) → again m done ≡ true → Below (suc done) m
-unfolding again
-again-below m done e = go (eqb m 0) refl e
-  where
-    go : (b : Bool) → eqb m 0 ≡ b → (b || ltb (done + 1) m) ≡ true → Below (suc done) m
-    go true q a nz = absurd (nz (eqb-true m 0 q))
-    go false q a nz = let l : done + 1 < m = ltb-true _ _ a in omega arith
-
-again-last : (m done : ℕ) → again m done ≡ false → Below done m → suc done ≡ m
-unfolding again
-again-last m done e below = go (eqb m 0) refl e
-  where
-    go : (b : Bool) → eqb m 0 ≡ b → (b || ltb (done + 1) m) ≡ false → suc done ≡ m
-    go true q a = let z : _≡_ {A = ℕ} 0 1 = cc in absurd (omega arith)
-    go false q a = let l : m ≤ done + 1 = ltb-false _ _ a in let k : done < m = below (eqb-false m 0 q) in omega arith
-
 bumped-length : (m d : ℕ) (dn : List ℕ) → length (bumped m d dn) ≡ length dn
 bumped-length m d dn = cases (λ (l : List ℕ). length l ≡ length dn) (eqb m 0) (λ q. refl) (λ q. rw length-set)
-
--- the loops with the innermost one counted
-bumped-counts : (t : List ℕ) (m d : ℕ) (s dn : List ℕ) → d < length dn → countOf t (getD s d 0) ≡ m → Below (suc (getD dn d 0)) m → Counts t (suc d) s dn → Counts t (suc d) s (bumped m d dn)
-bumped-counts t m d s dn l c b k =
-    cases (λ (x : List ℕ). Counts t (suc d) s x) (eqb m 0) (λ q. k)
-    (λ q. (rw (getD-set-same dn d (getD dn d 0 + 1) 0 l, add-one, c) b, counts-dones t d d (getD dn d 0 + 1) s dn (omega arith) (k .1)))
 
 -- ---- a text begun, and a place gone on to
 
 pub begun-ok : {t : List ℕ} → Checked t → FlowOk t (begun (length t))
 unfolding begun
-begun-ok h = record { checked = h; place = start; counts = tt; starts4 = refl; dones4 = refl; length = refl }
+begun-ok h = record { checked = h; place = start; starts4 = refl; dones4 = refl; length = refl }
 
 -- gone on behind a command that opens and closes nothing
 pub gone-ok : {t : List ℕ} {f : Flow} {c : Command} {n : ℕ} → FlowOk t f → readAt t (f .at) ≡ At c n
     → after c n (opens (f .depth) (f .starts)) ≡ opens (f .depth) (f .starts) → FlowOk t (gone n f)
 gone-ok {t} {f} {c} {n} h e q =
-    record { checked = h .checked; place = rw q at (next c n (h .place) e); counts = h .counts; starts4 = h .starts4; dones4 = h .dones4; length = h .length }
+    record { checked = h .checked; place = rw q at (next c n (h .place) e); starts4 = h .starts4; dones4 = h .dones4; length = h .length }
 
 -- "`S` is neither last nor directly before `g` or `G`": what is skipped opens and closes nothing
 pub skipped-ok : {t : List ℕ} {f : Flow} {k n l : ℕ} {c : Command} → FlowOk t f → readAt t (f .at) ≡ At (Skip k) n → readAt t n ≡ At c l → FlowOk t (gone l f)
@@ -141,11 +110,6 @@ opened-ok {t} {f} {n} h e =
     record {
       checked = h .checked;
       place = rw (add-one, getD-set-same (f .starts) (f .depth) n 0 (omega (arith, h .starts4)), opens-set (f .depth) (f .depth) n (f .starts) (omega arith)) (next LoopBegin n (h .place) e);
-      counts = rw add-one (
-        rw (getD-set-same (f .dones) (f .depth) 0 0 (omega (arith, h .dones4))) (λ nz. omega arith),
-        counts-starts t (f .depth) (f .depth) n (f .starts) (set (f .dones) (f .depth) 0) (omega arith)
-            (counts-dones t (f .depth) (f .depth) 0 (f .starts) (f .dones) (omega arith) (h .counts)),
-      );
       starts4 = rw length-set (h .starts4);
       dones4 = rw length-set (h .dones4);
       length = h .length;
@@ -153,15 +117,12 @@ opened-ok {t} {f} {n} h e =
 
 -- ---- a loop ended
 
-backed-ok : {t : List ℕ} {f : Flow} {n m d : ℕ} → FlowOk t f → readAt t (f .at) ≡ At (LoopEnd m) n → f .depth ≡ suc d → again m (getD (f .dones) d 0) ≡ true → FlowOk t (backed d m f)
-backed-ok {t} {f} {n} {m} {d} h e z a =
+backed-ok : {t : List ℕ} {f : Flow} {n m d : ℕ} → FlowOk t f → readAt t (f .at) ≡ At (LoopEnd m) n → f .depth ≡ suc d → FlowOk t (backed d m f)
+backed-ok {t} {f} {n} {m} {d} h e z =
     let p : Enclosed t (f .at) (opens (suc d) (f .starts)) = rw z at (h .place) in
-    let k : Counts t (suc d) (f .starts) (f .dones) = rw z at (h .counts) in
-    let l : suc d ≤ mostOpen = omega (arith, depth-most h) in
     record {
       checked = h .checked;
       place = rw z (backs p .0);
-      counts = rw z (bumped-counts t m d (f .starts) (f .dones) (omega (arith, h .dones4)) (count-here p e) (again-below m (getD (f .dones) d 0) a) k);
       starts4 = h .starts4;
       dones4 = rw bumped-length (h .dones4);
       length = h .length;
@@ -169,7 +130,7 @@ backed-ok {t} {f} {n} {m} {d} h e z a =
 
 left-ok : {t : List ℕ} {f : Flow} {n m d : ℕ} → FlowOk t f → readAt t (f .at) ≡ At (LoopEnd m) n → f .depth ≡ suc d → FlowOk t (left d n f)
 left-ok {t} {f} {n} {m} {d} h e z =
-    record { checked = h .checked; place = next (LoopEnd m) n (rw z at (h .place)) e; counts = (rw z at (h .counts)) .1; starts4 = h .starts4; dones4 = h .dones4; length = h .length }
+    record { checked = h .checked; place = next (LoopEnd m) n (rw z at (h .place)) e; starts4 = h .starts4; dones4 = h .dones4; length = h .length }
 
 -- a loop is open where one ends
 end-open : {t : List ℕ} {f : Flow} {n m : ℕ} → FlowOk t f → readAt t (f .at) ≡ At (LoopEnd m) n → f .depth ≡ suc (f .depth - 1)
@@ -184,16 +145,4 @@ end-goes {t} {f} {n} {m} h e = let z = end-open h e in rw (lt-ltb 0 (f .depth) (
 pub closed-ok : {t : List ℕ} {f : Flow} {n m : ℕ} → FlowOk t f → readAt t (f .at) ≡ At (LoopEnd m) n → FlowOk t (closed (f .depth - 1) m n f)
 closed-ok {t} {f} {n} {m} h e =
     let z = end-open h e in
-    cases (λ (g : Flow). FlowOk t g) (again m (getD (f .dones) (f .depth - 1) 0)) (λ a. backed-ok h e z a) (λ a. left-ok h e z)
-
--- "each loop end returns to its own start until its count is done"
-pub ends-loop : {t : List ℕ} {f : Flow} {n m : ℕ} → FlowOk t f → readAt t (f .at) ≡ At (LoopEnd m) n → EndsLoop m n f (closed (f .depth - 1) m n f)
-ends-loop {t} {f} {n} {m} h e =
-    let z = end-open h e in
-    let d = f .depth - 1 in
-    let p : Enclosed t (f .at) (opens (suc d) (f .starts)) = rw z at (h .place) in
-    let k : Counts t (suc d) (f .starts) (f .dones) = rw z at (h .counts) in
-    let below : Below (getD (f .dones) d 0) m = rw (count-here p e) at (k .0) in
-    cases (λ (g : Flow). EndsLoop m n f g) (again m (getD (f .dones) d 0))
-    (λ a. returns d z (again-below m (getD (f .dones) d 0) a))
-    (λ a. leaves d z (again-last m (getD (f .dones) d 0) a below))
+    cases (λ (g : Flow). FlowOk t g) (again m (getD (f .dones) (f .depth - 1) 0)) (λ a. backed-ok h e z) (λ a. left-ok h e z)

@@ -1,13 +1,11 @@
 -- The place in the current text and the open loops. 01, "A turn": `g`, `G n`, `e`.
 -- Assumes nothing.
-use Prim.Native.Nat.{ℕ, zero, suc, _+_, _-_, _<_}
-use mathlib.Core.Path.{_≡_}
+use Prim.Native.Nat.{ℕ, zero, suc, _+_, _-_}
 use mathlib.Core.List.{List, [], _∷_}
 use mathlib.Core.Bool.{Bool, true, false, cond, _&&_, _||_}
 use lib.ListN.{getD, set, replicate}
 use lib.Dec.{ltb, leb, eqb}
 use Rattle.lines.specs.Texts.{mostOpen}
-use Rattle.lines.specs.Loops.{countOf}
 use Rattle.flow.specs.declared.Flow.{Flow}
 use Rattle.flow.specs.declared.Flowed.{Flowed}
 
@@ -69,17 +67,3 @@ loopEnded n next f = cond (ltb 0 (f .depth) && leb (f .depth) mostOpen) (goes (c
 abbrev pub opens : ℕ → List ℕ → List ℕ
 opens zero starts = []
 opens (suc d) starts = getD starts d 0 ∷ opens d starts
-
--- a body that has run so often, of a loop with the count m: it runs for ever, or has not run m times
-abbrev pub Below : ℕ → ℕ → Type 0
-Below done m = (m ≡ 0 → ⊥) → done < m
-
--- each open loop of a text is below its count
-abbrev pub Counts : List ℕ → ℕ → List ℕ → List ℕ → Type 0
-Counts t zero starts dones = Unit
-Counts t (suc d) starts dones = Below (getD dones d 0) (countOf t (getD starts d 0)) × Counts t d starts dones
-
--- "each loop end returns to its own start until its count is done": what a loop end with the count m makes of a flow
-pub data EndsLoop (m next : ℕ) (f : Flow) : Flow → Type 0 where
-  returns : (d : ℕ) → f .depth ≡ suc d → Below (suc (getD (f .dones) d 0)) m → EndsLoop m next f (backed d m f)
-  leaves : (d : ℕ) → f .depth ≡ suc d → suc (getD (f .dones) d 0) ≡ m → EndsLoop m next f (left d next f)

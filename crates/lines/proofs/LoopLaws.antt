@@ -4,7 +4,6 @@ use mathlib.Core.Path.{_≡_, refl, sym, _∙_}
 use mathlib.Core.List.{List, [], _∷_}
 use mathlib.Core.Bool.{Bool, true, false, cond, and-eq-true-iff}
 use native.Mathlib.Omega.{arith}
-use native.Mathlib.Nat.{add-zero}
 use lib.ListN.{length}
 use lib.Dec.{ltb}
 use borrow.Author.Tests.{ltb-true, eqb-true, eq-eqb, ne-eqb}
@@ -16,7 +15,7 @@ use Rattle.commands.specs.Reading.{fault, readAt}
 use Rattle.commands.proofs.ReadingLaws.{read-step}
 use Rattle.lines.specs.declared.Judged.the-variants.{Passes, Refused}
 use Rattle.lines.specs.Texts.{Reading, commands, faulty, before, goesOn, readingFrom, structured, skippable, judged, lineJudged, storable, storedJudged, mostOpen}
-use Rattle.lines.specs.Loops.{rest, after, Enclosed, start, next, scanTo, enclosing, countCommand, countFrom, countOf, Checked, Skippable, Lawful}
+use Rattle.lines.specs.Loops.{rest, after, Enclosed, start, next, scanTo, enclosing, Checked, Skippable, Lawful}
 use Rattle.lines.proofs.TextLaws.{reading-law}
 
 -- ---- what is left of a checked text at a place
@@ -192,48 +191,3 @@ enclosed-by {t} {at} {st} p = let q = scan-at p at (omega arith) in sym (q .2 �
     go : (k : ℕ) → scanTo k t at at st ≡ st
     go zero = refl
     go (suc k) = rw (eq-eqb at at refl)
-
--- ---- the count of each open loop, seen from a place inside it: i loops are opened between
-
-abbrev Seen : List ℕ → ℕ → ℕ → ℕ → Type 0
-Seen t at s i = (k : ℕ) × (length t ≤ at + k) × (countOf t s ≡ countFrom k t at i)
-
-abbrev Counted : List ℕ → ℕ → ℕ → List ℕ → Type 0
-Counted t at i [] = Unit
-Counted t at i (s ∷ outer) = Seen t at s i × Counted t at (suc i) outer
-
-seen-next : (t : List ℕ) (at s i : ℕ) {c : Command} {n : ℕ} → readAt t at ≡ At c n → Seen t at s i → (k : ℕ) × (length t ≤ n + k) × (countOf t s ≡ countCommand c i (λ j. countFrom k t n j))
-unfolding countFrom
-seen-next t at s i {c} {n} e (zero, l, r) = let h = read-step t at e in absurd (omega arith)
-seen-next t at s i {c} {n} e (suc k, l, r) = let h = read-step t at e in (k, omega arith, r ∙ rw e)
-
-counted-next : (t : List ℕ) (at i j : ℕ) (st : List ℕ) {c : Command} {n : ℕ} → readAt t at ≡ At c n → ((k : ℕ) (g : ℕ → ℕ) → countCommand c (i + k) g ≡ g (j + k)) → Counted t at i st → Counted t n j st
-counted-next t at i j [] e q h = tt
-counted-next t at i j (s ∷ outer) {c} {n} e q h =
-    let z = seen-next t at s i e (h .0) in (
-      (z .0, z .1, z .2 ∙ simp add-zero at (q 0 (λ m. countFrom (z .0) t n m))),
-      counted-next t at (suc i) (suc j) outer e (λ k g. up k g) (h .1),
-    )
-  where
-    up : (k : ℕ) (g : ℕ → ℕ) → countCommand c (suc i + k) g ≡ g (suc j + k)
-    up k g = let a : suc i + k ≡ i + suc k = omega arith in let b : suc j + k ≡ j + suc k = omega arith in rw (a, b) (q (suc k) g)
-
-one : (k : ℕ) → 1 + k ≡ suc (0 + k)
-one k = omega arith
-
-counted : {t : List ℕ} {at : ℕ} {st : List ℕ} → Enclosed t at st → Counted t at 0 st
-unfolding countOf
-counted start = tt
-counted {t} (next {at = a} {starts = s} LoopBegin n p e) = ((length t, omega arith, refl), counted-next t a 0 1 s e (λ k g. rw (one k)) (counted p))
-counted {t} (next {at = a} {starts = s} (LoopEnd m) n p e) = outer s (counted p)
-  where
-    outer : (xs : List ℕ) → Counted t a 0 xs → Counted t n 0 (rest xs)
-    outer [] y = tt
-    outer (x ∷ xs) y = counted-next t a 1 0 xs e (λ k g. rw (one k)) (y .1)
-counted {t} (next {at = a} {starts = s} (Skip m) n p e) = counted-next t a 0 0 s e (λ k g. refl) (counted p)
-counted {t} (next {at = a} {starts = s} (Jump m) n p e) = counted-next t a 0 0 s e (λ k g. refl) (counted p)
-counted {t} (next {at = a} {starts = s} (Plain b) n p e) = counted-next t a 0 0 s e (λ k g. refl) (counted p)
-
--- at the end of a loop stands its count
-pub count-here : {t : List ℕ} {at : ℕ} {s : ℕ} {outer : List ℕ} {n m : ℕ} → Enclosed t at (s ∷ outer) → readAt t at ≡ At (LoopEnd m) n → countOf t s ≡ m
-count-here {t} {at} {s} p e = seen-next t at s 0 e (counted p .0) .2

@@ -2,11 +2,11 @@
 -- each command that reads is a spelling, one behind the other. Assumes nothing.
 use Prim.Native.Nat.{ℕ, _+_, _-_, _≤_}
 use mathlib.Core.Path.{_≡_, refl, sym, ap, subst, _∙_}
-use mathlib.Core.List.{List, [], _∷_, _++_, append-assoc}
+use mathlib.Core.List.{List, [], _∷_, _++_}
 use mathlib.Core.Bool.{Bool, true, false, cond, and-eq-true-iff}
 use native.Mathlib.Omega.{arith}
 use lib.ListN.{length, getD, drop, take-append-drop, drop-of-length-le}
-use lib.Seq.{drop-drop, drop-cons}
+use lib.Seq.{drop-drop}
 use lib.Dec.{ltb, eqb}
 use borrow.Author.Tests.{ltb-false, eqb-true}
 use Rattle.parts.specs.Parts.{part, same}
@@ -31,7 +31,7 @@ use Rattle.lines.proofs.TextLaws.{reading-law}
 use Rattle.lines.proofs.LoopLaws.{passes, before-is}
 use Rattle.lines.proofs.CodeLaws.{Sound, read-sound, TakenCode, taken-code}
 use Rattle.lines.proofs.ListLaws.{spelled-taken}
-use Rattle.lines.proofs.TakenLaws.{no, textOf, text-run, line-tested, store-tested}
+use Rattle.lines.proofs.TakenLaws.{no, textOf, text-run, line-tested, store-tested, store-bytes}
 
 -- ---- a text that reads
 
@@ -103,12 +103,6 @@ line-spelled b n r m e =
     let bytes : t ++ runText run ≡ b = sym (text-run b) in
     let l : HostList = record { slot = NoSlot; listed = p .0; run = run } in
     spelled-as b l m (subst (λ (x : List ℕ). Spells l x) bytes (spells run without (w .0))) (rw (w .1, p .2))
-
--- the bytes of a store: `s`, the slot's digits, the text, and `R` or none
-store-bytes : (b digits text t r : List ℕ) → getD t 0 0 ≡ 115 → 1 ≤ length t → drop 1 t ≡ digits ++ text → b ≡ t ++ r → (115 ∷ digits) ++ (text ++ r) ≡ b
-store-bytes b digits text t r first some bytes whole =
-    let head : t ≡ 115 ∷ (digits ++ text) = drop-cons t 0 0 some ∙ rw (first, bytes) in
-    sym (append-assoc (115 ∷ digits) text r) ∙ ap (λ (x : List ℕ). x ++ r) (sym head) ∙ sym whole
 
 store-spelled : (b : List ℕ) (slot at n : ℕ) → length b ≤ mostBytes → lineOf b ≡ Taken.Store slot at n → Spelled b
 unfolding lineOf storedJudged listFault

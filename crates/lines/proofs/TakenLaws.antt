@@ -1,18 +1,19 @@
 -- What is known of a line that is taken, and of a text that it stores: each test on the way was passed. Assumes nothing.
 use Prim.Native.Nat.{ℕ, zero, suc, _-_, _≤_, _<_}
 use mathlib.Core.Path.{_≡_, refl, sym, ap, _∙_}
-use mathlib.Core.List.{List, [], _∷_, _++_, append-nil}
+use mathlib.Core.List.{List, [], _∷_, _++_, append-nil, append-assoc}
 use mathlib.Core.Bool.{Bool, true, false, cond, and-eq-true-iff}
 use native.Mathlib.Omega.{arith}
 use lib.ListN.{length, getD, take, drop, length-append, length-drop, List·getD-eq-default}
-use lib.Seq.{take-at, take-all, take-suc, take-length, drop-append-le}
+use lib.Seq.{take-at, take-all, take-suc, take-length, drop-append-le, drop-cons}
 use lib.Dec.{leb, eqb}
 use borrow.Author.Tests.{leb-true, le-leb, eqb-true}
 use Rattle.parts.specs.Parts.{part, same}
 use Rattle.digits.specs.declared.Operand.{Operand}
 use Rattle.digits.specs.declared.Operand.the-variants.{Missing, Number, Above}
 use Rattle.digits.specs.Operand.{operandAt}
-use Rattle.digits.proofs.ReadBack.{number-past}
+use Rattle.digits.proofs.ReadBack.{number-past, spelled}
+use Rattle.digits.specs.ReadBack.{spelling}
 use Rattle.commands.specs.Table.{oneOf}
 use Rattle.commands.specs.Reading.{badOperand}
 use Rattle.lines.specs.declared.Body.{Body}
@@ -148,6 +149,12 @@ stored-part b at n h e =
     ∙ ap (λ (x : List ℕ). take n x) (drop-append-le at (textOf b) r h)
     ∙ take-at (drop at (textOf b)) r n long
 
+-- the bytes of a store: `s`, the slot's digits, the text, and `R` or none
+pub store-bytes : (b digits text t r : List ℕ) → getD t 0 0 ≡ 115 → 1 ≤ length t → drop 1 t ≡ digits ++ text → b ≡ t ++ r → (115 ∷ digits) ++ (text ++ r) ≡ b
+store-bytes b digits text t r first some bytes whole =
+    let head : t ≡ 115 ∷ (digits ++ text) = drop-cons t 0 0 some ∙ rw (first, bytes) in
+    sym (append-assoc (115 ∷ digits) text r) ∙ ap (λ (x : List ℕ). x ++ r) (sym head) ∙ sym whole
+
 pub stored : (b : List ℕ) (slot at n : ℕ) → lineOf b ≡ Taken.Store slot at n → length b ≤ mostBytes → StoredFrom b slot at n
 unfolding lineOf textGood
 stored b slot at n e m =
@@ -158,10 +165,16 @@ stored b slot at n e m =
     let z : n ≡ length t - at = k .all in
     let same : part b at n ≡ drop at t = stored-part b at n (p .1) z in
     let short : length (drop at t) ≤ mostBytes = omega (arith, length-drop at t) in
+    let w = spelled t 1 slot at (k .number) in
+    let first : getD t 0 0 ≡ 115 = eqb-true (getD t 0 0) 115 (k .store) in
+    let bytes = store-bytes b (spelling (w .zeros) slot) (drop at t) t (runText (endsWithR b)) first (omega arith) (w .bytes) (text-run b) in
     record {
       slot-most = leb-true slot mostSlot (k .in-range);
       inside = omega arith;
       good = rw (same, le-leb (length (drop at t)) mostBytes short, k .passes);
+      zeros = w .zeros;
+      whole = sym bytes ∙ ap (λ (x : List ℕ). 115 ∷ (spelling (w .zeros) slot ++ (x ++ runText (endsWithR b)))) (sym same)
+          ∙ ap (λ (r : Bool). 115 ∷ (spelling (w .zeros) slot ++ (part b at n ++ runText r))) (k .runs);
     }
 
 pub text-checked : (t : List ℕ) → textGood t ≡ true → Checked t
@@ -172,13 +185,17 @@ text-checked t e = stored-checked t (go (storedJudged t) (and-eq-true-iff (leb (
     go Passes k = refl
     go (Refused f) k = no (cc)
 
-pub held : (b : List ℕ) (n : ℕ) (run : Bool) → lineOf b ≡ Taken.Line n run → TakenFrom b n
+pub held : (b : List ℕ) (n : ℕ) (run : Bool) → lineOf b ≡ Taken.Line n run → TakenFrom b n run
 unfolding lineOf
 held b n run e =
     let k = line-tested (textOf b) (endsWithR b) n run e in
     let l : length (textOf b) ≤ length b = text-length b in
     let same : take n b ≡ textOf b = ap (λ (x : List ℕ). take n x) (text-run b) ∙ take-at (textOf b) (runText (endsWithR b)) n (sym (k .all)) in
-    record { inside = omega (arith, k .all); checked = rw same (k .passes) }
+    record {
+      inside = omega (arith, k .all);
+      checked = rw same (k .passes);
+      whole = text-run b ∙ ap (λ (x : List ℕ). x ++ runText (endsWithR b)) (sym same) ∙ ap (λ (r : Bool). take n b ++ runText r) (sym (k .runs));
+    }
 
 -- `R` alone and nothing are no lines
 alone-no-line : (run : Bool) → bodyOf (runText run) ≡ Body.Line → _≡_ {A = ℕ} 0 1

@@ -1,12 +1,13 @@
 -- What is claimed of lines: which are taken, said of lists of commands and not by reading bytes; and what a taken text has.
 -- 01, "Lines", "The host's list", "Structure". Assumes nothing.
-use Prim.Native.Nat.{ℕ, _+_, _≤_}
-use mathlib.Core.List.{List, [], _∷_}
+use Prim.Native.Nat.{ℕ, _+_, _≤_, _<_}
+use mathlib.Core.List.{List, [], _∷_, _++_}
 use mathlib.Core.Bool.{Bool, true}
 use mathlib.Core.Path.{_≡_}
 use lib.ListN.{length, take}
 use Rattle.parts.specs.Parts.{part}
-use Rattle.commands.specs.declared.Command.the-variants.{LoopEnd}
+use Rattle.commands.specs.declared.Command.{Command}
+use Rattle.digits.specs.ReadBack.{spelling}
 use Rattle.commands.specs.declared.Read.the-variants.{At}
 use Rattle.commands.specs.Table.{oneOf}
 use Rattle.commands.specs.Reading.{readAt}
@@ -14,9 +15,9 @@ use Rattle.lines.specs.declared.Body.{Body}
 use Rattle.lines.specs.declared.Taken.{Taken}
 use Rattle.lines.specs.Texts.{goesOn, readingFrom, mostBytes, mostOpen, textGood}
 use Rattle.lines.specs.Bodies.{bodyOf, lineOf, mostSlot, takenCode, lineCode}
-use Rattle.lines.specs.Lists.{HostList, writtenOf, listFault, listCode, list, listOf, Spells}
-use Rattle.lines.specs.Loops.{Enclosed, enclosing, countOf, Checked, Lawful}
-use Rattle.lines.specs.Examples.{examples, each}
+use Rattle.lines.specs.Lists.{HostList, runText, writtenOf, listFault, listCode, list, listOf, Spells}
+use Rattle.lines.specs.Loops.{Enclosed, enclosing, Checked, Lawful}
+use Rattle.lines.specs.Examples.{examples, each, operands, judged}
 
 -- a body of at most 256 bytes spells a list with nothing wrong in it
 pub record SpelledAs (l : HostList) (b : List ℕ) : Type 0 where
@@ -35,11 +36,16 @@ pub record StoredFrom (b : List ℕ) (slot at n : ℕ) : Type 0 where
   pub slot-most : slot ≤ mostSlot
   pub inside : at + n ≤ length b
   pub good : textGood (part b at n) ≡ true
+  -- the body is `s`, the slot, that text and `R`: "leading zeros allowed"
+  pub zeros : ℕ
+  pub whole : b ≡ 115 ∷ (spelling zeros slot ++ (part b at n ++ (82 ∷ [])))
 
 -- what becomes the current text: the first bytes of the body, checked
-pub record TakenFrom (b : List ℕ) (n : ℕ) : Type 0 where
+pub record TakenFrom (b : List ℕ) (n : ℕ) (run : Bool) : Type 0 where
   pub inside : n ≤ length b
   pub checked : Checked (take n b)
+  -- the body is that text, "then optionally one `R`"
+  pub whole : b ≡ take n b ++ runText run
 
 pub record LineClaims : Type 0 where
   -- every list, written as a body, gets the code of the list, by its length, its ranges and its structure
@@ -57,12 +63,14 @@ pub record LineClaims : Type 0 where
   pub codes : (b : List ℕ) → oneOf (0 ∷ 2 ∷ 3 ∷ []) (lineCode b) ≡ true
   -- "the first fault from the left": a text read from a place is its command there, then the text read from behind it
   pub from-the-left : (t : List ℕ) (at : ℕ) → readingFrom t at ≡ goesOn (readAt t at) (λ n. readingFrom t n)
+  -- a command ends within its text: with its spelling (`CommandAt`) that leaves one next place
+  pub next-place : (t : List ℕ) (at : ℕ) (c : Command) (next : ℕ) → readAt t at ≡ At c next → (at < next) × (next ≤ length t)
   -- what is stored may be stored, and may run
   pub stored : (b : List ℕ) (slot at n : ℕ) → lineOf b ≡ Taken.Store slot at n → length b ≤ mostBytes
       → StoredFrom b slot at n
   pub stored-checked : (t : List ℕ) → textGood t ≡ true → Checked t
   -- "its commands, one or more, become the current text"
-  pub held : (b : List ℕ) (n : ℕ) (run : Bool) → lineOf b ≡ Taken.Line n run → TakenFrom b n
+  pub held : (b : List ℕ) (n : ℕ) (run : Bool) → lineOf b ≡ Taken.Line n run → TakenFrom b n run
   pub one-or-more : (b : List ℕ) (n : ℕ) (run : Bool) → bodyOf b ≡ Body.Line → lineOf b ≡ Taken.Line n run → 1 ≤ n
   -- each place of a checked text: no fault, no fifth loop, no `G` without its `g`, no `S` before one, all closed at the end
   pub lawful : {t : List ℕ} {at : ℕ} {starts : List ℕ} → Checked t → Enclosed t at starts
@@ -71,8 +79,7 @@ pub record LineClaims : Type 0 where
   pub at-most-four : {t : List ℕ} {at : ℕ} {starts : List ℕ} → Checked t → Enclosed t at starts → length starts ≤ mostOpen
   -- the loops open at a place are those that enclose it, whatever way was run
   pub enclosed-by : {t : List ℕ} {at : ℕ} {starts : List ℕ} → Enclosed t at starts → starts ≡ enclosing t at
-  -- "each `G` closes the nearest open `g`": its number is the count of the innermost loop
-  pub count-here : {t : List ℕ} {at start : ℕ} {outer : List ℕ} {n m : ℕ} → Enclosed t at (start ∷ outer)
-      → readAt t at ≡ At (LoopEnd m) n → countOf t start ≡ m
   -- K5 to K8, K11 and the edges around them
   pub edges : each examples ≡ true
+  -- the table of commands: the last good and the first bad operand of every row
+  pub ranges : judged operands ≡ true

@@ -71,6 +71,55 @@ examples =
     ∷ example (65 ∷ (replicate 255 48 ++ bytes "R")) 2
     ∷ []
 
+-- ---- the table of commands, at its edges
+
+-- operands of a letter: what stands before them and behind them in a line, those that are taken and those that are out of range
+pub record Operands : Type 0 where
+  pub before : Text.String
+  pub behind : Text.String
+  pub good : List Text.String
+  pub bad : List Text.String
+
+abbrev pub of : Text.String → Text.String → List Text.String → List Text.String → Operands
+of l r good bad = record { before = l; behind = r; good = good; bad = bad }
+
+-- "Other operands are required": an empty one is among the bad ones
+unfoldable pub operands : List Operands
+operands =
+    of "A" "R" ("0" ∷ "2147483647" ∷ "002147483647" ∷ []) ("" ∷ "2147483648" ∷ [])
+    ∷ of "P" "R" ("0" ∷ "2147483647" ∷ []) ("" ∷ "2147483648" ∷ [])
+    ∷ of "D" "R" ("0" ∷ "2147483647" ∷ []) ("" ∷ "2147483648" ∷ [])
+    ∷ of "z" "R" ("0" ∷ "2147483647" ∷ []) ("" ∷ "2147483648" ∷ [])
+    ∷ of "Z" "R" ("0" ∷ "2147483647" ∷ []) ("" ∷ "2147483648" ∷ [])
+    ∷ of "V" "R" ("1" ∷ "16777216" ∷ []) ("" ∷ "0" ∷ "16777217" ∷ [])
+    ∷ of "L" "R" ("1" ∷ "65000" ∷ []) ("" ∷ "0" ∷ "65001" ∷ [])
+    ∷ of "f" "R" ("0" ∷ "1" ∷ []) ("" ∷ "2" ∷ [])
+    ∷ of "F" "R" ("0" ∷ "1" ∷ []) ("" ∷ "2" ∷ [])
+    ∷ of "m" "R" ("0" ∷ "100" ∷ []) ("" ∷ "101" ∷ [])
+    ∷ of "h" "R" ("0" ∷ "50" ∷ []) ("" ∷ "51" ∷ [])
+    ∷ of "j" "R" ("1" ∷ "2" ∷ "4" ∷ "8" ∷ "16" ∷ "32" ∷ "64" ∷ "128" ∷ "256" ∷ []) ("" ∷ "0" ∷ "3" ∷ "255" ∷ "257" ∷ "512" ∷ [])
+    ∷ of "o" "R" ("1400" ∷ "1650" ∷ []) ("" ∷ "1399" ∷ "1651" ∷ [])
+    ∷ of "J" "R" ("0" ∷ "3" ∷ []) ("" ∷ "4" ∷ [])
+    ∷ of "b" "R" ("9600" ∷ "19200" ∷ "38400" ∷ []) ("" ∷ "0" ∷ "9599" ∷ "9601" ∷ "38401" ∷ "57600" ∷ [])
+    ∷ of "M" "R" ("0" ∷ "30000" ∷ []) ("" ∷ "30001" ∷ [])
+    -- "none means 0"; "none means 02"
+    ∷ of "gA0G" "R" ("" ∷ "0" ∷ "30000" ∷ []) ("30001" ∷ [])
+    ∷ of "H" "R" ("" ∷ "01" ∷ "11" ∷ "02" ∷ "12" ∷ "03" ∷ "13" ∷ "04" ∷ "14" ∷ []) ("0" ∷ "1" ∷ "00" ∷ "10" ∷ "05" ∷ "15" ∷ "21" ∷ "011" ∷ [])
+    ∷ of "S" "A0R" ("01" ∷ "11" ∷ "02" ∷ "12" ∷ "03" ∷ "13" ∷ "04" ∷ "14" ∷ []) ("" ∷ "0" ∷ "1" ∷ "00" ∷ "10" ∷ "05" ∷ "15" ∷ "21" ∷ "011" ∷ [])
+    ∷ of "e" "R" ("0" ∷ "15" ∷ []) ("" ∷ "16" ∷ [])
+    ∷ of "s" "R" ("0" ∷ "15" ∷ "015" ∷ []) ("" ∷ "16" ∷ [])
+    ∷ []
+
+-- each operand, where it stands, gives this code
+unfoldable pub code-each : ℕ → Text.String → Text.String → List Text.String → Bool
+code-each c l r [] = true
+code-each c l r (x ∷ xs) = eqb (lineCode (bytes l ++ (bytes x ++ bytes r))) c && code-each c l r xs
+
+-- "operand missing or out of range (3)"
+unfoldable pub judged : List Operands → Bool
+judged [] = true
+judged (o ∷ os) = code-each 0 (o .before) (o .behind) (o .good) && code-each 3 (o .before) (o .behind) (o .bad) && judged os
+
 -- each body gets its code
 unfoldable pub each : List Example → Bool
 each [] = true

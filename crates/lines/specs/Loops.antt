@@ -4,7 +4,6 @@ use Prim.Native.Nat.{ℕ, zero, suc, _<_}
 use mathlib.Core.List.{List, [], _∷_}
 use mathlib.Core.Bool.{cond}
 use mathlib.Core.Path.{_≡_}
-use lib.ListN.{length}
 use lib.Dec.{eqb}
 use Rattle.commands.specs.declared.Command.{Command}
 use Rattle.commands.specs.declared.Command.the-variants.{LoopBegin, LoopEnd, Skip, Jump, Plain}
@@ -43,27 +42,6 @@ scanTo (suc k) t to at starts = cond (eqb at to) starts (scanRead (readAt t at) 
 
 unfoldable pub enclosing : List ℕ → ℕ → List ℕ
 enclosing t to = scanTo to t to 0 []
-
--- the count of the loop that begins at a place: that of the first `G`, from there, that closes no loop opened on the way
-abbrev pub countCommand : Command → ℕ → (ℕ → ℕ) → ℕ
-countCommand LoopBegin inner go = go (suc inner)
-countCommand (LoopEnd m) zero go = m
-countCommand (LoopEnd m) (suc inner) go = go inner
-countCommand (Skip m) inner go = go inner
-countCommand (Jump m) inner go = go inner
-countCommand (Plain a) inner go = go inner
-
-abbrev pub countRead : Read → ℕ → (ℕ → ℕ → ℕ) → ℕ
-countRead (At c n) inner go = countCommand c inner (λ i. go n i)
-countRead (Bad f) inner go = 0
-countRead End inner go = 0
-
-unfoldable pub countFrom : ℕ → List ℕ → ℕ → ℕ → ℕ
-countFrom zero t at inner = 0
-countFrom (suc k) t at inner = countRead (readAt t at) inner (λ n i. countFrom k t n i)
-
-unfoldable pub countOf : List ℕ → ℕ → ℕ
-countOf t begin = countFrom (length t) t begin 0
 
 -- a text that passed the check of lines; stored text passes it too
 abbrev pub Checked : List ℕ → Type 0

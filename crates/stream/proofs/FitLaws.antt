@@ -104,7 +104,7 @@ steps-fits : {steps : ℕ} {t : List ℕ} (text : List ℕ) {image : List ℕ} {
 steps-fits text f (keeps-text d) = record { text = f .text; core = does-fits (f .core) d }
 steps-fits text {image} f (enters-text slot e) = record { text = padded-fits (slotText image slot); core = f .core }
 
-fits-kept : Kept FitsIn
+pub fits-kept : Kept FitsIn
 fits-kept = record {
   fresh = record { text = padded-fits []; core = fresh-fits };
   obeys = λ {body} {text} h d. obeys-fits text h d;

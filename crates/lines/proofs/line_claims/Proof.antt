@@ -5,11 +5,12 @@ use Rattle.parts.specs.Parts.{same}
 use Rattle.digits.specs.Operand.{digitRun, valueAfter, operandOf, operandAt}
 use Rattle.commands.specs.Table.{table, find, asksOf, commandOf, oneOf, powerIn, exponentOf, within}
 use Rattle.commands.specs.Reading.{readAt}
+use Rattle.commands.proofs.ReadingLaws.{read-step}
 use Rattle.lines.specs.Texts.{readingIn, readingFrom, structured, lineJudged, storedJudged}
 use Rattle.lines.specs.Bodies.{immediates, immediateIn, bodyOf, endsWithR, textEnd, takenOf, lineOf, lineCode}
-use Rattle.lines.specs.Examples.{bytes, examples, each}
+use Rattle.lines.specs.Examples.{bytes, examples, each, operands, code-each, judged}
 use Rattle.lines.proofs.TextLaws.{reading-law}
-use Rattle.lines.proofs.LoopLaws.{lawful, at-most-four, enclosed-by, count-here}
+use Rattle.lines.proofs.LoopLaws.{lawful, at-most-four, enclosed-by}
 use Rattle.lines.proofs.CodeLaws.{codes}
 use Rattle.lines.proofs.ListLaws.{list-law, list-back, written-spells, spelled-taken}
 use Rattle.lines.proofs.TakenLaws.{stored, text-checked, held, one-or-more}
@@ -20,6 +21,10 @@ use Rattle.lines.proofs.line_claims.Tie as tie
 edges : each examples ≡ true
 unfolding examples each bytes lineCode bodyOf same immediates immediateIn endsWithR textEnd takenOf lineOf readingIn readingFrom structured lineJudged storedJudged readAt table find asksOf commandOf oneOf powerIn exponentOf within operandAt operandOf digitRun valueAfter
 edges = refl
+
+ranges : judged operands ≡ true
+unfolding operands code-each judged bytes lineCode bodyOf same immediates immediateIn endsWithR textEnd takenOf lineOf readingIn readingFrom structured lineJudged storedJudged readAt table find asksOf commandOf oneOf powerIn exponentOf within operandAt operandOf digitRun valueAfter
+ranges = refl
 
 returns : tie.Need-returns
 returns c = record {
@@ -38,8 +43,9 @@ returns c = record {
   lawful = lawful;
   at-most-four = at-most-four;
   enclosed-by = enclosed-by;
-  count-here = count-here;
+  next-place = λ t at c n e. read-step t at e;
   edges = edges;
+  ranges = ranges;
 }
 
 pub line-claims-spec : {M : Type 1} → statement M

@@ -1,0 +1,528 @@
+-- Each turn by itself: the command that stands at the place, or the wait, computes to a few fields of its definition. Assumes nothing.
+use Prim.Native.Nat.{ℕ, _^_, _-_, _≤_, _<_}
+use mathlib.Core.Path.{_≡_, refl, sym, ap, subst, _∙_}
+use mathlib.Core.List.{List}
+use mathlib.Core.Bool.{Bool, true, false, cond, false≢true}
+use native.Mathlib.Omega.{arith}
+use lib.ListN.{length, set}
+use lib.Dec.{ltb, leb, eqb}
+use borrow.Author.Tests.{le-ltb, lt-ltb, le-leb, lt-leb, eq-eqb, ne-eqb, eqb-true}
+use Rattle.parts.proofs.Laws.{cases}
+use Rattle.commands.specs.declared.Command.{Command}
+use Rattle.commands.specs.declared.Read.{Read}
+use Rattle.commands.specs.declared.Read.the-variants.{At, Bad, End}
+use Rattle.commands.specs.Table.{top, table, find, commandOf}
+use Rattle.commands.specs.Reading.{readAt}
+use Rattle.commands.proofs.TableLaws.{exponent-complete}
+use Rattle.frames.specs.Receive.{Receiver, bodyIn}
+use Rattle.image.specs.Image.{slotGood, slotText}
+use Rattle.flow.specs.declared.Flow.{Flow}
+use Rattle.flow.specs.declared.Flowed.{Flowed}
+use Rattle.flow.specs.Flow.{begun, gone, loopBegun, loopEnded}
+use Rattle.motor.specs.declared.Wait.{Wait}
+use Rattle.motor.specs.declared.Motor.{Motor}
+use Rattle.motor.specs.declared.Last.{Last}
+use Rattle.motor.specs.declared.Moved.{Moved}
+use Rattle.motor.specs.declared.Moved.the-variants.{Goes, Stops}
+use Rattle.motor.specs.Inputs.{levelThere, falls, cut}
+use Rattle.motor.specs.Motion.{fresh, last, waiting, placedAt, actionOf, room, reported, finite, homed, movedOn, relative, absolute, delayed, held, delayOn, endlessOn, legOn, awaited, legEnded, stopped, served}
+use Rattle.turns.specs.declared.Core.{Core}
+use Rattle.turns.specs.declared.Settings.{Settings}
+use Rattle.turns.specs.declared.Stepped.{Stepped}
+use Rattle.turns.specs.declared.Action.{Action}
+use Rattle.turns.specs.declared.Direction.{Direction}
+use Rattle.turns.specs.Settings.{defaults, withSpeed, withAcceleration, withFlag, withTurned, withMoveCurrent, withHoldCurrent, withExponent, withCorrection, withOutputs, withBaud}
+use Rattle.turns.specs.Turns.{freshCore, started, withFlow, withMotor, withSettings, ended, astray, moved, acted, flowed, skipped, jumped, skipTaken, commandTaken, stays, settled, isFree, stepOf, turnCore, textAfter, actionAnswered}
+use Rattle.turns.specs.Ends.{Reads}
+use Rattle.turns.proofs.MoveLaws.{clash}
+use Rattle.turns.proofs.TurnLaws.{at-wait, turn-last}
+use Rattle.obeying.specs.declared.Obeyed.{Obeyed}
+use Rattle.obeying.specs.Obeying.{textWritten}
+use Rattle.obeying.specs.Deeds.{Obeys, refuses, tells, stores, clears, stops, resumes, again, loads}
+use Rattle.drive.specs.declared.StartAnswer.{StartAnswer}
+use Rattle.drive.specs.Unit.{Drive, drive}
+use Rattle.drive.specs.Calls.{freshUnit, startOf, mostSample, receivedBy, Turning, turnTaken, turnOf}
+use Rattle.drive.proofs.StartLaws.{started-unit}
+use Rattle.drive.proofs.FeedLaws.{frame-does}
+use Rattle.keeping.proofs.TurnLaws.{free}
+use Rattle.runs.specs.Reach.{Feed, Turn, after, textOf}
+use Rattle.runs.specs.Causes.{Made}
+use Rattle.runs.proofs.CallLaws.{feed-cases, turn-cases, turn-made}
+use Rattle.runs.proofs.CommandLaws.{turned}
+use Rattle.effects.specs.Bodies.{homing}
+use Rattle.effects.specs.Turns as effects
+use Rattle.effects.specs.Turns.{Defaults, SameRun, Letter, Homes, Keeps, Flowing, listed, Plainly, SetsOne, then, Takes, here, Leads, Sets, ATurn, aTurn, EachCommand, EachWait, Resting, Answers}
+
+-- ---- a fresh start
+
+-- the same of a core
+abbrev Fresh : Core → Type 0
+Fresh c = (number : ℕ) (r : Receiver) (text : List ℕ) → Defaults (drive number r text c)
+
+fresh-core : Fresh freshCore
+unfolding freshCore begun fresh defaults
+fresh-core number r text = record {
+  settings = refl;
+  sample = refl;
+  position = refl;
+  known = refl;
+  free = refl;
+  no-action = refl;
+  not-loaded = refl;
+  code = refl;
+  first = refl;
+  none-open = refl;
+}
+
+started-core : (n : ℕ) → Fresh (started n freshCore)
+unfolding started freshCore begun fresh defaults
+started-core n number r text = record {
+  settings = refl;
+  sample = refl;
+  position = refl;
+  known = refl;
+  free = refl;
+  no-action = refl;
+  not-loaded = refl;
+  code = refl;
+  first = refl;
+  none-open = refl;
+}
+
+pub start-defaults : (number : ℕ) (image body text : List ℕ) → startOf number image body text .answer ≡ StartAnswer.Started → Defaults (startOf number image body text .unit)
+unfolding freshUnit
+start-defaults number image body text e =
+    let n : ℕ = length (slotText image 0) in
+    subst Defaults (sym (started-unit number image body text e)) (cases Fresh (ltb 0 n) (λ q. started-core n) (λ q. fresh-core) number _ _)
+
+-- ---- calls that leave the run where it is
+
+-- of a text and a core
+abbrev Same : List ℕ → Core → List ℕ → Core → Type 0
+Same text c text′ c′ = (text′ ≡ text) × (c′ .flow ≡ c .flow) × (c′ .settings ≡ c .settings) × (c′ .loaded ≡ c .loaded)
+
+same-run : {u v : Drive} → Same (u .text) (u .core) (v .text) (v .core) → SameRun u v
+same-run h = record { text-same = h .0; flow-same = h .1; settings-same = h .2; loaded-same = h .3 }
+
+obeys-same : {body : List ℕ} (text : List ℕ) {c : Core} {o : Obeyed} → c .running ≡ true → Obeys body c o → Same text c (textWritten (o .write) body text) (o .core)
+unfolding ended
+obeys-same text h (refuses k l) = (refl, refl, refl, refl)
+obeys-same text h (tells t l) = (refl, refl, refl, refl)
+obeys-same text h (stores slot at n i l) = (refl, refl, refl, refl)
+obeys-same text h clears = (refl, refl, refl, refl)
+obeys-same text h (stops e r) = (refl, refl, refl, refl)
+obeys-same text h resumes = (refl, refl, refl, refl)
+obeys-same text h (again r) = clash h r
+obeys-same text h (loads run n r l) = clash h r
+
+pub feeds : (u : Drive) (bytes image buffer : List ℕ) → u .core .running ≡ true → SameRun u (after (Feed bytes image buffer) u)
+feeds u bytes image buffer h =
+    same-run (feed-cases u bytes image buffer (Same (u .text) (u .core)) (refl, refl, refl, refl)
+    (λ d. obeys-same (u .text) h (frame-does (receivedBy u bytes .frame) (bodyIn (receivedBy u bytes .receiver)) (u .core))))
+
+-- a step that stays in its text
+abbrev SameStep : Core → Stepped → Type 0
+SameStep c s = ((text image : List ℕ) → textAfter (s .enter) text image ≡ text) × (s .core .flow ≡ c .flow) × (s .core .settings ≡ c .settings) × (s .core .loaded ≡ c .loaded)
+
+moved-same : (m : Moved) (c : Core) → SameStep c (stays (moved m c))
+unfolding ended
+moved-same (Goes m) c = ((λ t i. refl), refl, refl, refl)
+moved-same (Stops k) c = ((λ t i. refl), refl, refl, refl)
+
+turn-same : (u : Drive) (sample ms steps : ℕ) (image : List ℕ) → SameStep (u .core) (stepOf sample ms steps (textOf u) image (u .core))
+    → SameRun u (after (Turn sample ms steps image) u)
+unfolding turnCore
+turn-same u sample ms steps image h =
+    turn-cases u sample ms steps image (λ (r : Turning). SameRun u (r .unit)) (λ a. same-run (refl, refl, refl, refl))
+    (λ m. same-run (h .0 (u .text) image, h .1, h .2, h .3))
+
+idle-step : (sample ms steps : ℕ) (t image : List ℕ) (c : Core) → c .running ≡ false → SameStep c (stepOf sample ms steps t image c)
+unfolding stepOf
+idle-step sample ms steps t image c h = cases (SameStep c) (c .running) (λ r. clash r h) (λ r. ((λ x y. refl), refl, refl, refl))
+
+wait-step : (sample ms steps : ℕ) (t image : List ℕ) (c : Core) → (c .motor .wait ≡ Wait.Nothing → ⊥) → SameStep c (stepOf sample ms steps t image c)
+wait-step sample ms steps t image c h = go (c .running) refl (isFree (c .motor .wait)) refl
+  where
+    go : (r : Bool) → c .running ≡ r → (b : Bool) → isFree (c .motor .wait) ≡ b → SameStep c (stepOf sample ms steps t image c)
+    go false r b q = idle-step sample ms steps t image c r
+    go true r true q = absurd (h (free (c .motor .wait) q))
+    go true r false q = subst (SameStep c) (sym (at-wait sample ms steps t image c r (c .motor .wait) refl q)) (moved-same (served (c .motor .wait) (c .motor .sample) (c .settings .flag) ms steps (reported sample steps (c .motor))) (withMotor (reported sample steps (c .motor)) c))
+
+pub serves : (u : Drive) (sample ms steps : ℕ) (image : List ℕ) → (u .core .motor .wait ≡ Wait.Nothing → ⊥) → SameRun u (after (Turn sample ms steps image) u)
+serves u sample ms steps image h = turn-same u sample ms steps image (wait-step sample ms steps (textOf u) image (u .core) h)
+
+pub idles : (u : Drive) (sample ms steps : ℕ) (image : List ℕ) → u .core .running ≡ false → SameRun u (after (Turn sample ms steps image) u)
+idles u sample ms steps image h = turn-same u sample ms steps image (idle-step sample ms steps (textOf u) image (u .core) h)
+
+-- ---- a command taken
+
+module _ (u : Drive) (sample ms steps : ℕ) (image : List ℕ) (run : u .core .running ≡ true) (m : Made u sample steps image) where
+  abbrev t : ATurn
+  t = aTurn u sample ms steps image
+
+  -- what the command makes of the unit
+  abbrev made : Command → ℕ → Drive
+  made d next = turnTaken (settled (commandTaken d next (textOf u) image (withMotor (reported sample steps (u .core .motor)) (u .core)))) image u .unit
+
+  -- the report counted, and the flow behind the command
+  abbrev behind : ℕ → Core
+  behind next = withFlow (gone next (u .core .flow)) (withMotor (reported sample steps (u .core .motor)) (u .core))
+
+  abbrev setting : Settings → ℕ → Drive
+  setting s next = turnTaken (settled (stays (withSettings s (behind next)))) image u .unit
+
+  abbrev moving : Motor → ℕ → Drive
+  moving a next = turnTaken (settled (stays (withMotor a (behind next)))) image u .unit
+
+  -- a command that sets, and one that moves or waits
+  sets-to : (i k : ℕ) (s : Settings) (d : Command) (next : ℕ) → Reads (textOf u) (u .core) (At d next) → made d next ≡ setting s next
+      → listed s ≡ set (listed (u .core .settings)) i k → Sets t i k
+  unfolding reported
+  sets-to i k s d next r e l =
+      subst (λ (v : Drive). SetsOne u v sample (here t) i k) (sym (turned u run sample ms steps image m d next r ∙ e)) (record {
+        goes = record { runs = run; text-same = refl; loaded-same = refl; code-same = refl; waits = r .free; position = refl; known = refl; keeps-sample = refl };
+        sets = l;
+      })
+
+  leads-to : (w : Wait) (p : ℕ) (k : Bool) (a : Motor) (d : Command) (next : ℕ) → Reads (textOf u) (u .core) (At d next) → made d next ≡ moving a next
+      → a .wait ≡ w → a .position ≡ p → a .known ≡ k → a .sample ≡ sample → Leads t w p k
+  leads-to w p k a d next r e x y z q =
+      subst (λ (v : Drive). Plainly u v sample w p k) (sym (turned u run sample ms steps image m d next r ∙ e)) (record {
+        goes = record { runs = run; text-same = refl; loaded-same = refl; code-same = refl; waits = x; position = y; known = z; keeps-sample = q };
+        settings-same = refl;
+      })
+
+  set-one : {l i : ℕ} (n : ℕ) → Letter l i → Takes t l n → Sets t i n
+  unfolding commandTaken acted commandOf find table
+  set-one n effects.speed (next, r) = sets-to 0 n (withSpeed n (u .core .settings)) (commandOf 86 n) next r refl refl
+  set-one n effects.acceleration (next, r) = sets-to 1 n (withAcceleration n (u .core .settings)) (commandOf 76 n) next r refl refl
+  set-one n effects.flag (next, r) = sets-to 2 n (withFlag n (u .core .settings)) (commandOf 102 n) next r refl refl
+  set-one n effects.turned (next, r) = sets-to 3 n (withTurned n (u .core .settings)) (commandOf 70 n) next r refl refl
+  set-one n effects.move-current (next, r) = sets-to 4 n (withMoveCurrent n (u .core .settings)) (commandOf 109 n) next r refl refl
+  set-one n effects.hold-current (next, r) = sets-to 5 n (withHoldCurrent n (u .core .settings)) (commandOf 104 n) next r refl refl
+  set-one n effects.correction (next, r) = sets-to 7 n (withCorrection n (u .core .settings)) (commandOf 111 n) next r refl refl
+  set-one n effects.outputs (next, r) = sets-to 8 n (withOutputs n (u .core .settings)) (commandOf 74 n) next r refl refl
+  set-one n effects.baud (next, r) = sets-to 9 n (withBaud n (u .core .settings)) (commandOf 98 n) next r refl refl
+
+  set-step : (e : ℕ) → e ≤ 8 → Takes t 106 (2 ^ e) → Sets t 6 e
+  unfolding commandTaken acted commandOf find table
+  set-step e l (next, r) = sets-to 6 e (withExponent e (u .core .settings)) (commandOf 106 (2 ^ e)) next r (rw (exponent-complete e l)) refl
+
+  -- the motor once the report is counted
+  abbrev now : Motor
+  now = reported sample steps (u .core .motor)
+
+  abbrev known : Bool
+  known = u .core .motor .known
+
+  placed : (n : ℕ) → Takes t 122 n → Leads t Wait.Nothing n true
+  unfolding commandTaken acted commandOf find table reported
+  placed n (next, r) = leads-to Wait.Nothing n true (placedAt n now) (commandOf 122 n) next r refl refl refl refl refl
+
+  no-delay : Takes t 77 0 → Leads t Wait.Nothing (here t) known
+  unfolding commandTaken acted commandOf find table reported delayed
+  no-delay (next, r) = leads-to Wait.Nothing _ known (delayed 0 now) (commandOf 77 0) next r refl refl refl refl refl
+
+  delay : (n : ℕ) → 0 < n → Takes t 77 n → Leads t (Wait.Delay n) (here t) known
+  unfolding commandTaken acted commandOf find table reported delayed
+  delay n l (next, r) = leads-to (Wait.Delay n) _ known (delayed n now) (commandOf 77 n) next r refl (rw (ne-eqb n 0 (λ z. omega arith))) refl refl refl
+
+  level-there : (digits : ℕ) → Takes t 72 digits → levelThere digits sample ≡ true → Leads t Wait.Nothing (here t) known
+  unfolding commandTaken acted commandOf find table reported held
+  level-there digits (next, r) l = leads-to Wait.Nothing _ known (held digits now) (commandOf 72 digits) next r refl (rw l) refl refl refl
+
+  level-awaited : (digits : ℕ) → Takes t 72 digits → levelThere digits sample ≡ false → Leads t (Wait.Input digits) (here t) known
+  unfolding commandTaken acted commandOf find table reported held
+  level-awaited digits (next, r) l = leads-to (Wait.Input digits) _ known (held digits now) (commandOf 72 digits) next r refl (rw l) refl refl refl
+
+  already-there : Takes t 65 (here t) → known ≡ true → Leads t Wait.Nothing (here t) true
+  unfolding commandTaken acted commandOf find table reported absolute
+  already-there (next, r) k = leads-to Wait.Nothing _ true now (commandOf 65 (now .position)) next r (rw (k, eq-eqb (now .position) (now .position) refl)) (r .free) refl k refl
+
+  endless-up : Takes t 80 0 → known ≡ true → Leads t (Wait.Move true true (top - here t)) (here t) true
+  unfolding commandTaken acted commandOf find table reported relative room
+  endless-up (next, r) k = leads-to (Wait.Move true true (top - now .position)) _ true (waiting (Wait.Move true true (top - now .position)) now) (commandOf 80 0) next r (rw k) refl refl k refl
+
+  endless-down : Takes t 68 0 → known ≡ true → Leads t (Wait.Move false true (here t)) (here t) true
+  unfolding commandTaken acted commandOf find table reported relative room
+  endless-down (next, r) k = leads-to (Wait.Move false true (now .position)) _ true (waiting (Wait.Move false true (now .position)) now) (commandOf 68 0) next r (rw k) refl refl k refl
+
+  up : (n : ℕ) → 0 < n → n ≤ top - here t → Takes t 80 n → known ≡ true
+      → Leads t (Wait.Move true false n) (here t) true
+  unfolding commandTaken acted commandOf find table reported relative finite room
+  up n l h (next, r) k = leads-to (Wait.Move true false n) _ true (waiting (Wait.Move true false n) now) (commandOf 80 n) next r (rw (k, ne-eqb n 0 (λ z. omega arith), le-leb n (top - now .position) h)) refl refl k refl
+
+  down : (n : ℕ) → 0 < n → n ≤ here t → Takes t 68 n → known ≡ true
+      → Leads t (Wait.Move false false n) (here t) true
+  unfolding commandTaken acted commandOf find table reported relative finite room
+  down n l h (next, r) k = leads-to (Wait.Move false false n) _ true (waiting (Wait.Move false false n) now) (commandOf 68 n) next r (rw (k, ne-eqb n 0 (λ z. omega arith), le-leb n (now .position) h)) refl refl k refl
+
+  to-above : (n : ℕ) → here t < n → n ≤ top → Takes t 65 n → known ≡ true
+      → Leads t (Wait.Move true false (n - here t)) (here t) true
+  unfolding commandTaken acted commandOf find table reported absolute finite room
+  to-above n l h (next, r) k =
+      let p : ℕ = now .position in
+      leads-to (Wait.Move true false (n - p)) _ true (waiting (Wait.Move true false (n - p)) now) (commandOf 65 n) next r
+      (rw (k, ne-eqb n p (λ z. omega arith), le-ltb n p (omega arith), le-leb (n - p) (top - p) (omega arith))) refl refl k refl
+
+  to-below : (n : ℕ) → n < here t → Takes t 65 n → known ≡ true
+      → Leads t (Wait.Move false false (here t - n)) (here t) true
+  unfolding commandTaken acted commandOf find table reported absolute finite room
+  to-below n l (next, r) k =
+      let p : ℕ = now .position in
+      leads-to (Wait.Move false false (p - n)) _ true (waiting (Wait.Move false false (p - n)) now) (commandOf 65 n) next r
+      (rw (k, ne-eqb n p (λ z. omega arith), lt-ltb n p l, le-leb (p - n) p (omega arith))) refl refl k refl
+
+  homes : (n : ℕ) → Takes t 90 n → Homes u (then t) sample (here t)
+  unfolding commandTaken acted commandOf find table reported homed
+  homes n (next, r) =
+      let leg = cases (λ (w : Wait). homing w ≡ true) (cut (u .core .settings .flag) sample) (λ q. refl) (λ q. refl) in
+      subst (λ (v : Drive). Homes u v sample (here t)) (sym (turned u run sample ms steps image m (commandOf 90 n) next r)) (record {
+        leg = leg;
+        plainly = record {
+          goes = record { runs = run; text-same = refl; loaded-same = refl; code-same = refl; waits = refl; position = refl; known = refl; keeps-sample = refl };
+          settings-same = refl;
+        };
+      })
+
+  -- a command that leads through the text, whether the run goes on or not
+  abbrev Kept : Core → Type 0
+  Kept c = (c .settings ≡ u .core .settings) × (c .loaded ≡ u .core .loaded) × (c .motor .wait ≡ Wait.Nothing) × (c .motor .position ≡ now .position)
+      × (c .motor .known ≡ known) × (c .motor .sample ≡ sample)
+
+  keeps-to : (d : Command) (next : ℕ) → Reads (textOf u) (u .core) (At d next) → Kept (made d next .core) → Keeps u (then t) sample (here t)
+  keeps-to d next r k =
+      subst (λ (v : Drive). Keeps u v sample (here t)) (sym (turned u run sample ms steps image m d next r))
+      (record { settings-same = k .0; loaded-same = k .1; free = k .2; position = k .3; known-same = k .4; keeps-sample = k .5 })
+
+  -- the run goes on somewhere in its text, or ends
+  on-kept : (f : Flow) → u .core .motor .wait ≡ Wait.Nothing → Kept (withFlow f (withMotor now (u .core)))
+  unfolding reported
+  on-kept f e = (refl, refl, e, refl, refl, refl)
+
+  off-kept : (k : ℕ) (f : Flow) → u .core .motor .wait ≡ Wait.Nothing → Kept (ended k (withFlow f (withMotor now (u .core))))
+  unfolding ended stopped reported
+  off-kept k f e = rw e (refl, refl, refl, refl, refl, refl)
+
+  flow-kept : (f : Flowed) → u .core .motor .wait ≡ Wait.Nothing → Kept (flowed f (withMotor now (u .core)))
+  unfolding astray
+  flow-kept f e = cases Kept (f .astray) (λ q. off-kept (u .core .code) (u .core .flow) e) (λ q. on-kept (f .flow) e)
+
+  skip-kept : (digits next : ℕ) → u .core .motor .wait ≡ Wait.Nothing → Kept (skipTaken digits (textOf u) next (withMotor now (u .core)))
+  unfolding skipTaken astray
+  skip-kept digits next e = cases Kept (levelThere digits (now .sample)) (λ q. go (readAt (textOf u) next)) (λ q. on-kept (gone next (u .core .flow)) e)
+    where
+      go : (r : Read) → Kept (skipped r (withMotor now (u .core)))
+      go (At d past) = on-kept (gone past (u .core .flow)) e
+      go (Bad f) = off-kept (u .core .code) (u .core .flow) e
+      go End = off-kept (u .core .code) (u .core .flow) e
+
+  jump-kept : (slot : ℕ) → u .core .motor .wait ≡ Wait.Nothing → Kept (jumped slot image (withMotor now (u .core)) .core)
+  unfolding jumped
+  jump-kept slot e =
+      cases (λ (s : Stepped). Kept (s .core)) (slotGood image slot) (λ q. on-kept (begun (length (slotText image slot))) e)
+      (λ q. off-kept 1 (u .core .flow) e)
+
+  flows : {l : ℕ} (n : ℕ) → Flowing l → Takes t l n → Keeps u (then t) sample (here t)
+  unfolding commandTaken commandOf find table
+  flows n effects.begins (next, r) = keeps-to (commandOf 103 n) next r (flow-kept (loopBegun next (u .core .flow)) (r .free))
+  flows n effects.ends (next, r) = keeps-to (commandOf 71 n) next r (flow-kept (loopEnded n next (u .core .flow)) (r .free))
+  flows n effects.skips (next, r) = keeps-to (commandOf 83 n) next r (skip-kept n next (r .free))
+  flows n effects.enters (next, r) = keeps-to (commandOf 101 n) next r (jump-kept n (r .free))
+
+  pub commands : EachCommand (aTurn u sample ms steps image)
+  commands = record {
+    set-one = set-one;
+    set-step = set-step;
+    placed = placed;
+    no-delay = no-delay;
+    delay = delay;
+    level-there = level-there;
+    level-awaited = level-awaited;
+    already-there = already-there;
+    endless-up = endless-up;
+    endless-down = endless-down;
+    up = up;
+    down = down;
+    to-above = to-above;
+    to-below = to-below;
+    homes = homes;
+    flows = flows;
+  }
+
+  -- ---- a wait served
+
+  -- what a wait that goes on makes of the unit
+  abbrev served-by : Wait → Moved
+  served-by w = served w (u .core .motor .sample) (u .core .settings .flag) ms steps now
+
+  abbrev waited : Moved → Drive
+  waited r = turnTaken (settled (stays (moved r (withMotor now (u .core))))) image u .unit
+
+  at-turn : (w : Wait) → u .core .motor .wait ≡ w → isFree w ≡ false → then t ≡ waited (served-by w)
+  unfolding turnCore
+  at-turn w e f =
+      turn-made u sample ms steps image m
+      ∙ ap (λ (s : Stepped). turnTaken (settled s) image u .unit) (at-wait sample ms steps (textOf u) image (u .core) run w e f)
+
+  goes-to : (w x : Wait) (p : ℕ) (k : Bool) (a : Motor) → u .core .motor .wait ≡ w → isFree w ≡ false → served-by w ≡ Goes a
+      → a .wait ≡ x → a .position ≡ p → a .known ≡ k → a .sample ≡ sample → Leads t x p k
+  goes-to w x p k a e f g q y z s =
+      subst (λ (v : Drive). Plainly u v sample x p k) (sym (at-turn w e f ∙ ap waited g)) (record {
+        goes = record { runs = run; text-same = refl; loaded-same = refl; code-same = refl; waits = q; position = y; known = z; keeps-sample = s };
+        settings-same = refl;
+      })
+
+  delay-on : (left : ℕ) → u .core .motor .wait ≡ Wait.Delay left → ms < left → Leads t (Wait.Delay (left - ms)) (here t) known
+  unfolding served delayOn reported
+  delay-on left e l = goes-to (Wait.Delay left) _ _ known (delayOn left ms now) e refl refl (rw (lt-leb left ms l)) refl refl refl
+
+  delay-over : (left : ℕ) → u .core .motor .wait ≡ Wait.Delay left → left ≤ ms → Leads t Wait.Nothing (here t) known
+  unfolding served delayOn reported
+  delay-over left e l = goes-to (Wait.Delay left) _ _ known (delayOn left ms now) e refl refl (rw (le-leb left ms l)) refl refl refl
+
+  move-on : (goes-up : Bool) (left : ℕ) → u .core .motor .wait ≡ Wait.Move goes-up false left → steps < left
+      → Leads t (Wait.Move goes-up false (left - steps)) (here t) known
+  unfolding served movedOn reported
+  move-on goes-up left e l = goes-to (Wait.Move goes-up false left) _ _ known (movedOn goes-up left steps now) e refl refl (rw (lt-leb left steps l)) refl refl refl
+
+  move-over : (goes-up : Bool) (left : ℕ) → u .core .motor .wait ≡ Wait.Move goes-up false left → left ≤ steps
+      → Leads t Wait.Nothing (here t) known
+  unfolding served movedOn reported
+  move-over goes-up left e l = goes-to (Wait.Move goes-up false left) _ _ known (movedOn goes-up left steps now) e refl refl (rw (le-leb left steps l)) refl refl refl
+
+  level-comes : (digits : ℕ) → u .core .motor .wait ≡ Wait.Input digits → levelThere digits sample ≡ true → Leads t Wait.Nothing (here t) known
+  unfolding served held reported
+  level-comes digits e l = goes-to (Wait.Input digits) _ _ known (held digits now) e refl refl (rw l) refl refl refl
+
+  level-stays : (digits : ℕ) → u .core .motor .wait ≡ Wait.Input digits → levelThere digits sample ≡ false → Leads t (Wait.Input digits) (here t) known
+  unfolding served held reported
+  level-stays digits e l = goes-to (Wait.Input digits) _ _ known (held digits now) e refl refl (rw l) refl refl refl
+
+  edge : (up : Bool) (left : ℕ) → u .core .motor .wait ≡ Wait.Move up true left → falls (u .core .motor .sample) sample ≡ true → Leads t Wait.Nothing (here t) known
+  unfolding served endlessOn reported
+  edge up left e l = goes-to (Wait.Move up true left) _ _ known (waiting Wait.Nothing now) e refl (rw l) refl refl refl refl
+
+  -- a homing leg: found, used up, or gone on with
+  abbrev Fails : Moved → Type 0
+  Fails r = waited r .core .running ≡ false → waited r .core .motor .known ≡ false
+
+  leg-fails : (away : Bool) (left n : ℕ) → u .core .motor .wait ≡ Wait.Leg away left n → Fails (served-by (Wait.Leg away left n))
+  unfolding served legOn ended stopped reported
+  leg-fails away left n e =
+      cases Fails (awaited away (u .core .settings .flag) sample) (λ q z. clash run (ends away z))
+      (λ q. cases Fails (leb left steps) (λ l z. rw e refl) (λ l z. clash run z))
+    where
+      ends : (b : Bool) → waited (Goes (legEnded b n now)) .core .running ≡ false → u .core .running ≡ false
+      ends true z = z
+      ends false z = z
+
+  homing-fails : homing (u .core .motor .wait) ≡ true → then t .core .running ≡ false → then t .core .motor .known ≡ false
+  homing-fails = go (u .core .motor .wait) refl
+    where
+      go : (w : Wait) → u .core .motor .wait ≡ w → homing w ≡ true → then t .core .running ≡ false → then t .core .motor .known ≡ false
+      go Wait.Nothing e h = absurd (false≢true h)
+      go (Wait.Move up endless left) e h = absurd (false≢true h)
+      go (Wait.Leg away left n) e h = subst (λ (v : Drive). v .core .running ≡ false → v .core .motor .known ≡ false) (sym (at-turn (Wait.Leg away left n) e refl)) (leg-fails away left n e)
+      go (Wait.Delay left) e h = absurd (false≢true h)
+      go (Wait.Input digits) e h = absurd (false≢true h)
+
+  abbrev Finds : Drive → Type 0
+  Finds v = v .core .running ≡ true → homing (v .core .motor .wait) ≡ false → Plainly u v sample Wait.Nothing 0 true
+
+  leg-finds : (away : Bool) (left n : ℕ) → Finds (waited (served-by (Wait.Leg away left n)))
+  unfolding served legOn ended reported
+  leg-finds away left n =
+      cases (λ (r : Moved). Finds (waited r)) (awaited away (u .core .settings .flag) sample) (λ q. found away)
+      (λ q. cases (λ (r : Moved). Finds (waited r)) (leb left steps) (λ l z. absurd (false≢true z)) (λ l z y. absurd (false≢true (sym y))))
+    where
+      found : (b : Bool) → Finds (waited (Goes (legEnded b n now)))
+      found true z y = absurd (false≢true (sym y))
+      found false z y = record {
+        goes = record { runs = run; text-same = refl; loaded-same = refl; code-same = refl; waits = refl; position = refl; known = refl; keeps-sample = refl };
+        settings-same = refl;
+      }
+
+  homing-finds : homing (u .core .motor .wait) ≡ true → Finds (then t)
+  homing-finds = go (u .core .motor .wait) refl
+    where
+      go : (w : Wait) → u .core .motor .wait ≡ w → homing w ≡ true → Finds (then t)
+      go Wait.Nothing e h = absurd (false≢true h)
+      go (Wait.Move up endless left) e h = absurd (false≢true h)
+      go (Wait.Leg away left n) e h = subst Finds (sym (at-turn (Wait.Leg away left n) e refl)) (leg-finds away left n)
+      go (Wait.Delay left) e h = absurd (false≢true h)
+      go (Wait.Input digits) e h = absurd (false≢true h)
+
+  pub waits : EachWait (aTurn u sample ms steps image)
+  waits = record {
+    delay-on = delay-on;
+    delay-over = delay-over;
+    move-on = move-on;
+    move-over = move-over;
+    level-comes = level-comes;
+    level-stays = level-stays;
+    edge = edge;
+    homing-fails = homing-fails;
+    homing-finds = homing-finds;
+  }
+
+-- ---- the action
+
+module _ (f : ℕ) (l : Last) where
+  number-so : actionAnswered f l .number ≡ l .number
+  unfolding actionAnswered
+  number-so = cases (λ (a : Action). a .number ≡ l .number) (eqb (l .number) 0) (λ q. sym (eqb-true (l .number) 0 q)) (λ q. refl)
+
+  none-so : l .number ≡ 0 → actionAnswered f l .direction ≡ Direction.Still
+  unfolding actionAnswered
+  none-so e = rw (eq-eqb (l .number) 0 e)
+
+  straight-so : (up : Bool) → 0 < l .number → f ≡ 0 → l .up ≡ up → actionAnswered f l .direction ≡ cond up Direction.Up Direction.Down
+  unfolding actionAnswered
+  straight-so true h e q = rw (ne-eqb (l .number) 0 (λ z. omega arith), e, q)
+  straight-so false h e q = rw (ne-eqb (l .number) 0 (λ z. omega arith), e, q)
+
+  turned-so : (up : Bool) → 0 < l .number → f ≡ 1 → l .up ≡ up → actionAnswered f l .direction ≡ cond up Direction.Down Direction.Up
+  unfolding actionAnswered
+  turned-so true h e q = rw (ne-eqb (l .number) 0 (λ z. omega arith), e, q)
+  turned-so false h e q = rw (ne-eqb (l .number) 0 (λ z. omega arith), e, q)
+
+module _ (a : Motor) (e : a .last ≡ actionOf (a .wait)) where
+  move-so : (up endless : Bool) (left : ℕ) → a .wait ≡ Wait.Move up endless left → a .last ≡ last up left true
+  move-so up endless left h = e ∙ rw h
+
+  leg-so : homing (a .wait) ≡ true → a .last .counts ≡ false
+  leg-so h = ap (λ (l : Last). l .counts) e ∙ go (a .wait) h
+    where
+      go : (w : Wait) → homing w ≡ true → actionOf w .counts ≡ false
+      go Wait.Nothing q = refl
+      go (Wait.Move up endless left) q = absurd (false≢true q)
+      go (Wait.Leg away left n) q = refl
+      go (Wait.Delay left) q = refl
+      go (Wait.Input digits) q = refl
+
+  rests-so : (w : Wait) → Resting w → a .wait ≡ w → a .last .number ≡ 0
+  rests-so w effects.nothing h = ap (λ (l : Last). l .number) (e ∙ ap actionOf h)
+  rests-so w (effects.delay left) h = ap (λ (l : Last). l .number) (e ∙ ap actionOf h)
+  rests-so w (effects.input digits) h = ap (λ (l : Last). l .number) (e ∙ ap actionOf h)
+
+turn-whole : (u : Drive) (sample ms steps : ℕ) (image : List ℕ) → Made u sample steps image
+    → turnOf u sample ms steps image ≡ turnTaken (turnCore sample ms steps (u .text) image (u .core)) image u
+unfolding turnOf
+turn-whole u sample ms steps image m = rw (m .image-right, le-ltb mostSample sample (m .sample-right), le-ltb (u .core .motor .last .number) steps (m .report-right))
+
+pub answers : (u : Drive) (sample ms steps : ℕ) (image : List ℕ) → Made u sample steps image → Answers (turnOf u sample ms steps image)
+answers u sample ms steps image m =
+    let c = turnCore sample ms steps (u .text) image (u .core) .core in
+    let f = c .settings .turned in
+    let l = c .motor .last in
+    let e = turn-last sample ms steps (u .text) image (u .core) in
+    subst Answers (sym (turn-whole u sample ms steps image m)) (record {
+      number = number-so f l;
+      none = none-so f l;
+      straight = straight-so f l;
+      turned = turned-so f l;
+      move = move-so (c .motor) e;
+      leg = leg-so (c .motor) e;
+      rests = rests-so (c .motor) e;
+    })

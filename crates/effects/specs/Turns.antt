@@ -1,0 +1,223 @@
+-- What a turn makes of a unit: a wait served, an idle turn, each command taken, and the action answered. 01, "A turn".
+-- Assumes nothing.
+use Prim.Native.Nat.{ℕ, _^_, _-_, _≤_, _<_}
+use mathlib.Core.Path.{_≡_}
+use mathlib.Core.List.{List, [], _∷_}
+use mathlib.Core.Bool.{Bool, true, false, cond}
+use lib.ListN.{set}
+use Rattle.commands.specs.declared.Read.the-variants.{At}
+use Rattle.commands.specs.Table.{top, commandOf}
+use Rattle.motor.specs.declared.Wait.{Wait}
+use Rattle.motor.specs.Inputs.{levelThere, falls}
+use Rattle.motor.specs.Motion.{last}
+use Rattle.turns.specs.declared.Settings.{Settings}
+use Rattle.turns.specs.declared.Direction.{Direction}
+use Rattle.turns.specs.Ends.{Reads, positionThen}
+use Rattle.drive.specs.Unit.{Drive}
+use Rattle.drive.specs.Calls.{Turning}
+use Rattle.runs.specs.Reach.{Turn, after, textOf}
+use Rattle.effects.specs.Bodies.{homing}
+
+-- the run is where it was: its text, its place and open loops, the settings, and whether a line is loaded
+pub record SameRun (u v : Drive) : Type 0 where
+  pub text-same : v .text ≡ u .text
+  pub flow-same : v .core .flow ≡ u .core .flow
+  pub settings-same : v .core .settings ≡ u .core .settings
+  pub loaded-same : v .core .loaded ≡ u .core .loaded
+
+-- ---- the settings
+
+-- their letters, and the place of each among the ten
+pub data Letter : ℕ → ℕ → Type 0 where
+  speed : Letter 86 0
+  acceleration : Letter 76 1
+  flag : Letter 102 2
+  turned : Letter 70 3
+  move-current : Letter 109 4
+  hold-current : Letter 104 5
+  correction : Letter 111 7
+  outputs : Letter 74 8
+  baud : Letter 98 9
+
+-- `V L f F m h j o J b`, of `j` the exponent
+abbrev pub listed : Settings → List ℕ
+listed s =
+    s .speed
+    ∷ s .acceleration
+    ∷ s .flag
+    ∷ s .turned
+    ∷ s .moving
+    ∷ s .holding
+    ∷ s .exponent
+    ∷ s .correction
+    ∷ s .outputs
+    ∷ s .baud
+    ∷ []
+
+-- "Defaults: V 305175, L 1000, j 256, o 1500, m 25, h 10, last sample 15, all else 0, baud 9600": of a unit that was started; 256 is 2 to the 8
+pub record Defaults (u : Drive) : Type 0 where
+  pub settings : listed (u .core .settings) ≡ 305175 ∷ 1000 ∷ 0 ∷ 0 ∷ 25 ∷ 10 ∷ 8 ∷ 1500 ∷ 0 ∷ 9600 ∷ []
+  pub sample : u .core .motor .sample ≡ 15
+  pub position : u .core .motor .position ≡ 0
+  pub known : u .core .motor .known ≡ true
+  pub free : u .core .motor .wait ≡ Wait.Nothing
+  pub no-action : u .core .motor .last .number ≡ 0
+  pub not-loaded : u .core .loaded ≡ false
+  pub code : u .core .code ≡ 0
+  pub first : u .core .flow .at ≡ 0
+  pub none-open : u .core .flow .depth ≡ 0
+
+-- ---- one turn: u becomes v, with this sample
+
+-- the run goes on in its text: what is waited for next, where the position is and whether it is known
+pub record Goes (u v : Drive) (sample : ℕ) (w : Wait) (p : ℕ) (k : Bool) : Type 0 where
+  pub runs : v .core .running ≡ true
+  pub text-same : v .text ≡ u .text
+  pub loaded-same : v .core .loaded ≡ u .core .loaded
+  pub code-same : v .core .code ≡ u .core .code
+  pub waits : v .core .motor .wait ≡ w
+  pub position : v .core .motor .position ≡ p
+  pub known : v .core .motor .known ≡ k
+  pub keeps-sample : v .core .motor .sample ≡ sample
+
+-- and no setting changes
+pub record Plainly (u v : Drive) (sample : ℕ) (w : Wait) (p : ℕ) (k : Bool) : Type 0 where
+  pub goes : Goes u v sample w p k
+  pub settings-same : v .core .settings ≡ u .core .settings
+
+-- and place i alone of the settings changes
+pub record SetsOne (u v : Drive) (sample : ℕ) (p i n : ℕ) : Type 0 where
+  pub goes : Goes u v sample Wait.Nothing p (u .core .motor .known)
+  pub sets : listed (v .core .settings) ≡ set (listed (u .core .settings)) i n
+
+-- and a homing leg is waited for
+pub record Homes (u v : Drive) (sample p : ℕ) : Type 0 where
+  pub leg : homing (v .core .motor .wait) ≡ true
+  pub plainly : Plainly u v sample (v .core .motor .wait) p (u .core .motor .known)
+
+-- whether the run goes on or not: nothing is waited for, and neither settings nor position nor a loaded line change
+pub record Keeps (u v : Drive) (sample p : ℕ) : Type 0 where
+  pub settings-same : v .core .settings ≡ u .core .settings
+  pub loaded-same : v .core .loaded ≡ u .core .loaded
+  pub free : v .core .motor .wait ≡ Wait.Nothing
+  pub position : v .core .motor .position ≡ p
+  pub known-same : v .core .motor .known ≡ u .core .motor .known
+  pub keeps-sample : v .core .motor .sample ≡ sample
+
+-- the letters of the commands that lead through the text: `g G S e`
+pub data Flowing : ℕ → Type 0 where
+  begins : Flowing 103
+  ends : Flowing 71
+  skips : Flowing 83
+  enters : Flowing 101
+
+-- a turn of a unit, and what is handed over
+pub record ATurn : Type 0 where
+  pub unit : Drive
+  pub sample : ℕ
+  pub ms : ℕ
+  pub steps : ℕ
+  pub image : List ℕ
+
+abbrev pub aTurn : Drive → ℕ → ℕ → ℕ → List ℕ → ATurn
+aTurn u sample ms steps image = record { unit = u; sample = sample; ms = ms; steps = steps; image = image }
+
+abbrev pub then : ATurn → Drive
+then t = after (Turn (t .sample) (t .ms) (t .steps) (t .image)) (t .unit)
+
+-- the command of the letter l with the number n stands at the place, and nothing is waited for
+abbrev pub Takes : ATurn → ℕ → ℕ → Type 0
+Takes t l n = (next : ℕ) × Reads (textOf (t .unit)) (t .unit .core) (At (commandOf l n) next)
+
+-- where the position stands once the report is counted
+abbrev pub here : ATurn → ℕ
+here t = positionThen (t .sample) (t .steps) (t .unit .core)
+
+-- what is waited for before the turn, and whether the position is known
+abbrev pub waitOf : ATurn → Wait
+waitOf t = t .unit .core .motor .wait
+
+abbrev pub knownIn : ATurn → Bool
+knownIn t = t .unit .core .motor .known
+
+abbrev pub Leads : ATurn → Wait → ℕ → Bool → Type 0
+Leads t w p k = Plainly (t .unit) (then t) (t .sample) w p k
+
+abbrev pub Sets : ATurn → ℕ → ℕ → Type 0
+Sets t i n = SetsOne (t .unit) (then t) (t .sample) (here t) i n
+
+-- only what is waited for changes
+abbrev pub Waits : ATurn → Wait → Type 0
+Waits t w = Leads t w (here t) (knownIn t)
+
+-- each command that is taken, by its letter
+pub record EachCommand (t : ATurn) : Type 0 where
+  -- "`V` 1 to 16777216" and the other settings
+  pub set-one : {l i : ℕ} (n : ℕ) → Letter l i → Takes t l n → Sets t i n
+  -- "The record keeps the exponent of `j`, 0 to 8"
+  pub set-step : (e : ℕ) → e ≤ 8 → Takes t 106 (2 ^ e) → Sets t 6 e
+  -- `z`: the position is that, and known
+  pub placed : (n : ℕ) → Takes t 122 n → Leads t Wait.Nothing n true
+  -- "`M0` ends at once"
+  pub no-delay : Takes t 77 0 → Waits t Wait.Nothing
+  pub delay : (n : ℕ) → 0 < n → Takes t 77 n → Waits t (Wait.Delay n)
+  -- "`H` tests each turn's sample, the first included"
+  pub level-there : (digits : ℕ) → Takes t 72 digits → levelThere digits (t .sample) ≡ true → Waits t Wait.Nothing
+  pub level-awaited : (digits : ℕ) → Takes t 72 digits → levelThere digits (t .sample) ≡ false
+      → Waits t (Wait.Input digits)
+  -- "`A` to the present position ends at once"
+  pub already-there : Takes t 65 (here t) → knownIn t ≡ true → Leads t Wait.Nothing (here t) true
+  -- a finite move within the range
+  pub up : (n : ℕ) → 0 < n → n ≤ top - here t → Takes t 80 n → knownIn t ≡ true → Leads t (Wait.Move true false n) (here t) true
+  pub down : (n : ℕ) → 0 < n → n ≤ here t → Takes t 68 n → knownIn t ≡ true → Leads t (Wait.Move false false n) (here t) true
+  pub to-above : (n : ℕ) → here t < n → n ≤ top → Takes t 65 n → knownIn t ≡ true → Leads t (Wait.Move true false (n - here t)) (here t) true
+  pub to-below : (n : ℕ) → n < here t → Takes t 65 n → knownIn t ≡ true → Leads t (Wait.Move false false (here t - n)) (here t) true
+  -- "`P0`, `D0` are endless: greatest number is the distance to the end of the range"
+  pub endless-up : Takes t 80 0 → knownIn t ≡ true → Leads t (Wait.Move true true (top - here t)) (here t) true
+  pub endless-down : Takes t 68 0 → knownIn t ≡ true → Leads t (Wait.Move false true (here t)) (here t) true
+  -- `Z`: a homing leg is waited for
+  pub homes : (n : ℕ) → Takes t 90 n → Homes (t .unit) (then t) (t .sample) (here t)
+  -- `g`, `G`, `S` and `e`: where they lead is said of whole runs, and they touch no setting and not the position
+  pub flows : {l : ℕ} (n : ℕ) → Flowing l → Takes t l n → Keeps (t .unit) (then t) (t .sample) (here t)
+
+-- each wait that is served
+pub record EachWait (t : ATurn) : Type 0 where
+  -- "`M` counts down elapsed time from the turn after its own"
+  pub delay-on : (left : ℕ) → waitOf t ≡ Wait.Delay left → t .ms < left → Waits t (Wait.Delay (left - t .ms))
+  pub delay-over : (left : ℕ) → waitOf t ≡ Wait.Delay left → left ≤ t .ms → Waits t Wait.Nothing
+  -- a finite move: what is left of it once the report is counted
+  pub move-on : (goes-up : Bool) (left : ℕ) → waitOf t ≡ Wait.Move goes-up false left → t .steps < left
+      → Waits t (Wait.Move goes-up false (left - t .steps))
+  pub move-over : (goes-up : Bool) (left : ℕ) → waitOf t ≡ Wait.Move goes-up false left → left ≤ t .steps
+      → Waits t Wait.Nothing
+  -- "`H` tests each turn's sample"
+  pub level-comes : (digits : ℕ) → waitOf t ≡ Wait.Input digits → levelThere digits (t .sample) ≡ true
+      → Waits t Wait.Nothing
+  pub level-stays : (digits : ℕ) → waitOf t ≡ Wait.Input digits → levelThere digits (t .sample) ≡ false
+      → Waits t (Wait.Input digits)
+  -- an endless move ends "when input 2 falls between two samples"
+  pub edge : (up : Bool) (left : ℕ) → waitOf t ≡ Wait.Move up true left → falls (t .unit .core .motor .sample) (t .sample) ≡ true
+      → Waits t Wait.Nothing
+  -- "A failed homing .. makes the position unknown until `z` or a homing that finds", "then position is 0"
+  pub homing-fails : homing (waitOf t) ≡ true → then t .core .running ≡ false → then t .core .motor .known ≡ false
+  pub homing-finds : homing (waitOf t) ≡ true → then t .core .running ≡ true → homing (then t .core .motor .wait) ≡ false
+      → Leads t Wait.Nothing 0 true
+
+-- no action is asked for
+pub data Resting : Wait → Type 0 where
+  nothing : Resting Wait.Nothing
+  delay : (left : ℕ) → Resting (Wait.Delay left)
+  input : (digits : ℕ) → Resting (Wait.Input digits)
+
+-- ---- the action: "direction and greatest number of microsteps. A number of 0 has no direction."; "`F1` turns the direction of every action"
+pub record Answers (r : Turning) : Type 0 where
+  pub number : r .action .number ≡ r .unit .core .motor .last .number
+  pub none : r .unit .core .motor .last .number ≡ 0 → r .action .direction ≡ Direction.Still
+  pub straight : (up : Bool) → 0 < r .unit .core .motor .last .number → r .unit .core .settings .turned ≡ 0 → r .unit .core .motor .last .up ≡ up
+      → r .action .direction ≡ cond up Direction.Up Direction.Down
+  pub turned : (up : Bool) → 0 < r .unit .core .motor .last .number → r .unit .core .settings .turned ≡ 1 → r .unit .core .motor .last .up ≡ up
+      → r .action .direction ≡ cond up Direction.Down Direction.Up
+  -- what is waited for is what is answered; "homing steps do not count in the position"
+  pub move : (up endless : Bool) (left : ℕ) → r .unit .core .motor .wait ≡ Wait.Move up endless left → r .unit .core .motor .last ≡ last up left true
+  pub leg : homing (r .unit .core .motor .wait) ≡ true → r .unit .core .motor .last .counts ≡ false
+  pub rests : (w : Wait) → Resting w → r .unit .core .motor .wait ≡ w → r .unit .core .motor .last .number ≡ 0
