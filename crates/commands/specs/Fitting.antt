@@ -22,7 +22,7 @@ actNumbered n (MoveUp k) = MoveUp n
 actNumbered n (MoveDown k) = MoveDown n
 actNumbered n (SetPosition k) = SetPosition n
 actNumbered n (Home k) = Home n
-actNumbered n (Set k which) = Set n which
+actNumbered n (Set which k) = Set which n
 actNumbered n (Delay k) = Delay n
 actNumbered n (WaitInput k) = WaitInput n
 

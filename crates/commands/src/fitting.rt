@@ -72,7 +72,7 @@ fn act_numbered(a: Act, n: u32) -> Act
         Act::MoveDown(_) => Act::MoveDown(n),
         Act::SetPosition(_) => Act::SetPosition(n),
         Act::Home(_) => Act::Home(n),
-        Act::Set(_, which) => Act::Set(n, which),
+        Act::Set(which, _) => Act::Set(which, n),
         Act::Delay(_) => Act::Delay(n),
         Act::WaitInput(_) => Act::WaitInput(n),
     }

@@ -27,7 +27,7 @@ pub enum Act {
     MoveDown(u32),
     SetPosition(u32),
     Home(u32),
-    Set(u32, Setting),
+    Set(Setting, u32),
     Delay(u32),
     WaitInput(u32),
 }

@@ -26,7 +26,7 @@ unfolding within
 up-to low n high e = leb-true n high (and-eq-true-iff (leb low n) (leb n high) .0 e .1)
 
 -- the setting of a letter has its row
-row-holds : (l n : ℕ) (which : Setting) → settingLetter which ≡ l → inRange (Plain (Set n which)) ≡ true → permits (asksOf l) n ≡ true
+row-holds : (l n : ℕ) (which : Setting) → settingLetter which ≡ l → inRange (Plain (Set which n)) ≡ true → permits (asksOf l) n ≡ true
 unfolding inRange
 row-holds l n which e r = rw (← e) r
 

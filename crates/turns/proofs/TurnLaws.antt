@@ -98,7 +98,7 @@ module _ (sample ms steps : ℕ) (t image : List ℕ) (c : Core) where
       (move-ends (MoveDown n) next (relative false n then) r (moveDown n) (λ k e. let s = relative-stops false n then e in (s .0, below n (s .2))))
   act-ends (SetPosition n) next r h = clash h
   act-ends (Home n) next r h = clash h
-  act-ends (Set n which) next r h = clash h
+  act-ends (Set which n) next r h = clash h
   act-ends (Delay n) next r h = clash h
   act-ends (WaitInput n) next r h = clash h
 

@@ -77,7 +77,7 @@ acted (MoveUp n) c = moved (ifKnown (c .motor) (relative true n (c .motor))) c
 acted (MoveDown n) c = moved (ifKnown (c .motor) (relative false n (c .motor))) c
 acted (SetPosition n) c = withMotor (placedAt n (c .motor)) c
 acted (Home n) c = withMotor (homed (c .settings .flag) n (c .motor)) c
-acted (Set n which) c = withSettings (withSetting which n (c .settings)) c
+acted (Set which n) c = withSettings (withSetting which n (c .settings)) c
 acted (Delay n) c = withMotor (delayed n (c .motor)) c
 acted (WaitInput n) c = withMotor (held n (c .motor)) c
 

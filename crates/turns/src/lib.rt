@@ -5,7 +5,7 @@ mod taking;
 
 ghost use mathlib.Core.Path.{_≡_};
 ghost use Prim.Native.Nat.{min};
-ghost use Rattle.turns.specs.Turns.{withFlow, withMotor, freshCore, started, ended, running, stepOf, settled, turnCore, directionOf, actionAnswered};
+ghost use Rattle.turns.specs.Turns.{withFlow, withMotor, withSettings, freshCore, started, ended, running, stepOf, settled, turnCore, directionOf, actionAnswered};
 use flow::Flow;
 use motor::Last;
 use motor::Motor;
@@ -89,6 +89,14 @@ pub(crate) fn set_flow(c: Core, f: Flow) -> Core
 {
     let mut d = c;
     d.flow = f;
+    d
+}
+
+pub(crate) fn set_settings(c: Core, s: Settings) -> Core
+    ensures { λ r. ⌜ r ≡ withSettings s c ⌝ }
+{
+    let mut d = c;
+    d.settings = s;
     d
 }
 

@@ -1,7 +1,7 @@
 // The settings of a unit: what each is at a fresh start, and how each is set.
 ghost use mathlib.Core.Path.{_≡_};
-ghost use Rattle.turns.specs.Settings.{defaults, withSetting};
-ghost use Rattle.turns.specs.Turns.{withSettings};
+ghost use Rattle.commands.specs.Table.{exponentOf};
+ghost use Rattle.turns.specs.Settings.{defaults, exponentOr, withSetting};
 use crate::Core;
 use commands::Exponent;
 use commands::Setting;
@@ -50,7 +50,7 @@ pub(crate) fn set(s: Settings, which: Setting, n: u32) -> Settings
         Setting::Turned => t.turned = n,
         Setting::MoveCurrent => t.moving = n,
         Setting::HoldCurrent => t.holding = n,
-        Setting::StepSize => t = keep_exponent(s, n),
+        Setting::StepSize => t.exponent = exponent_kept(s.exponent, n),
         Setting::Correction => t.correction = n,
         Setting::Outputs => t.outputs = n,
         Setting::Baud => t.baud = n,
@@ -58,26 +58,14 @@ pub(crate) fn set(s: Settings, which: Setting, n: u32) -> Settings
     t
 }
 
-// The exponent of a step size is kept.
-fn keep_exponent(s: Settings, n: u32) -> Settings
-    ensures { λ r. ⌜ r ≡ withSetting Setting.StepSize n s ⌝ }
+// The exponent of a step size, or the one before where it has none.
+fn exponent_kept(before: u32, n: u32) -> u32
+    ensures { λ r. ⌜ r ≡ exponentOr before (exponentOf n) ⌝ }
 {
     let Exponent::Power(e) = commands::exponent_of(n) else {
-        return s;
+        return before;
     };
-    let mut t = s;
-    t.exponent = e;
-    t
-}
-
-// The same in a core.
-pub(crate) fn set_in(c: Core, which: Setting, n: u32) -> Core
-    ensures { λ r. ⌜ r ≡ withSettings (withSetting which n (c .settings)) c ⌝ }
-{
-    let s = c.settings;
-    let mut d = c;
-    d.settings = set(s, which, n);
-    d
+    e
 }
 
 // The setting f.

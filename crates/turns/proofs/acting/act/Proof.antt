@@ -27,6 +27,7 @@ act-spec =
     (λ c κs. search needs)
     (λ c. search needs)
     (λ c κs. search needs)
+    (λ c κs. search needs)
     (λ c. search needs)
     (λ c κs. search needs)
     (λ c κs. search needs)
@@ -44,6 +45,6 @@ act-spec =
       c .before .before .flag-of .ensures,
       c .before .before .before .before .a5 .given .1,
     ))
-    (λ c. simp (c .set-in .ensures, c .before .before .a6 .given .1))
+    (λ c. simp (c .set-settings .ensures, c .before .set .ensures, c .before .before .before .a6 .given .1))
     (λ c. simp (c .set-motor3 .ensures, c .before .delay .ensures, c .before .before .before .a7 .given .1))
     (λ c. simp (c .set-motor4 .ensures, c .before .hold .ensures, c .before .before .before .a8 .given .1)))

@@ -24,7 +24,7 @@ set-spec =
     (λ c. simp (c .enum-told4 .given .1))
     (λ c. simp (c .enum-told5 .given .1))
     (λ c. simp (c .enum-told6 .given .1))
-    (λ c. simp (c .keep-exponent .ensures, c .before .enum-told7 .given .1))
+    (λ c. simp (c .exponent-kept .ensures, c .before .enum-told7 .given .1))
     (λ c. simp (c .enum-told8 .given .1))
     (λ c. simp (c .enum-told9 .given .1))
     (λ c. simp (c .enum-told10 .given .1)))
