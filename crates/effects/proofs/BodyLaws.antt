@@ -14,7 +14,6 @@ use Rattle.image.specs.Calls.{afterClear}
 use Rattle.flow.specs.Flow.{begun}
 use Rattle.motor.specs.declared.Wait.{Wait}
 use Rattle.motor.specs.declared.Wait.the-variants.{Nothing, Move, LegAway, LegToward, Delay, Input}
-use Rattle.motor.specs.declared.Motor.{Motor}
 use Rattle.motor.specs.Motion.{isLeg, stopped}
 use Rattle.turns.specs.declared.Core.{Core}
 use Rattle.turns.specs.Turns.{started, ended}
@@ -52,17 +51,17 @@ module _ (c : Core) (text image : List ℕ) where
 
   is-stopped : Stopped c (ended (c .code) c)
   unfolding ended stopped
-  is-stopped = let g = gives-up (c .motor .wait) (c .motor) in record {
+  is-stopped = record {
     stops = refl;
     flow-same = refl;
     settings-same = refl;
     loaded-same = refl;
     code-same = refl;
-    free = g .free;
-    position-same = g .position;
-    sample-same = g .sample;
-    last-same = g .last;
-    known = given-up (c .motor .wait) (c .motor);
+    free = refl;
+    position-same = refl;
+    sample-same = refl;
+    last-same = refl;
+    known = given-up (c .motor .wait) (c .motor .known);
   }
 
   is-started : Started c (started (c .flow .length) c)
