@@ -24,15 +24,16 @@ use Rattle.motor.specs.declared.Motor.{Motor}
 use Rattle.motor.specs.declared.Last.{Last}
 use Rattle.motor.specs.declared.Moved.{Moved}
 use Rattle.motor.specs.declared.Moved.the-variants.{Goes, Stops}
-use Rattle.motor.specs.Inputs.{levelThere, falls, cut}
-use Rattle.motor.specs.Motion.{fresh, last, waiting, placedAt, actionOf, room, reported, finite, homed, movedOn, relative, absolute, delayed, held, delayOn, endlessOn, legOn, awaited, legEnded, stopped, served}
+use Rattle.motor.specs.Inputs.{levelThere, falls, cut, clear}
+use Rattle.motor.specs.Motion.{fresh, last, waiting, placedAt, actionOf, room, reported, finite, homed, movedOn, relative, absolute, delayed, held, delayOn, endlessOn, toward, awayOn, towardOn, isFree, stopped, served}
 use Rattle.turns.specs.declared.Core.{Core}
-use Rattle.turns.specs.declared.Settings.{Settings}
+use Rattle.turns.specs.declared.setting.Settings.{Settings}
 use Rattle.turns.specs.declared.Stepped.{Stepped}
 use Rattle.turns.specs.declared.Action.{Action}
 use Rattle.turns.specs.declared.Direction.{Direction}
-use Rattle.turns.specs.Settings.{defaults, withSpeed, withAcceleration, withFlag, withTurned, withMoveCurrent, withHoldCurrent, withExponent, withCorrection, withOutputs, withBaud}
-use Rattle.turns.specs.Turns.{freshCore, started, withFlow, withMotor, withSettings, ended, astray, moved, acted, flowed, skipped, jumped, skipTaken, commandTaken, stays, settled, isFree, stepOf, turnCore, textAfter, actionAnswered}
+use Rattle.commands.specs.declared.Setting.the-variants.{TopSpeed, Acceleration, FlagLevel, Turned, MoveCurrent, HoldCurrent, StepSize, Correction, Outputs, Baud}
+use Rattle.turns.specs.Settings.{defaults, withSetting}
+use Rattle.turns.specs.Turns.{freshCore, started, withFlow, withMotor, withSettings, ended, astray, moved, acted, flowed, skipped, jumped, skipTaken, commandTaken, stays, settled, stepOf, turnCore, textAfter, actionAnswered}
 use Rattle.turns.specs.Ends.{Reads}
 use Rattle.turns.proofs.MoveLaws.{clash}
 use Rattle.turns.proofs.TurnLaws.{at-wait, turn-last}
@@ -210,19 +211,19 @@ module _ (u : Drive) (sample ms steps : ℕ) (image : List ℕ) (run : u .core .
 
   set-one : {l i : ℕ} (n : ℕ) → Letter l i → Takes t l n → Sets t i n
   unfolding commandTaken acted commandOf find table
-  set-one n effects.speed (next, r) = sets-to 0 n (withSpeed n (u .core .settings)) (commandOf 86 n) next r refl refl
-  set-one n effects.acceleration (next, r) = sets-to 1 n (withAcceleration n (u .core .settings)) (commandOf 76 n) next r refl refl
-  set-one n effects.flag (next, r) = sets-to 2 n (withFlag n (u .core .settings)) (commandOf 102 n) next r refl refl
-  set-one n effects.turned (next, r) = sets-to 3 n (withTurned n (u .core .settings)) (commandOf 70 n) next r refl refl
-  set-one n effects.move-current (next, r) = sets-to 4 n (withMoveCurrent n (u .core .settings)) (commandOf 109 n) next r refl refl
-  set-one n effects.hold-current (next, r) = sets-to 5 n (withHoldCurrent n (u .core .settings)) (commandOf 104 n) next r refl refl
-  set-one n effects.correction (next, r) = sets-to 7 n (withCorrection n (u .core .settings)) (commandOf 111 n) next r refl refl
-  set-one n effects.outputs (next, r) = sets-to 8 n (withOutputs n (u .core .settings)) (commandOf 74 n) next r refl refl
-  set-one n effects.baud (next, r) = sets-to 9 n (withBaud n (u .core .settings)) (commandOf 98 n) next r refl refl
+  set-one n effects.speed (next, r) = sets-to 0 n (withSetting TopSpeed n (u .core .settings)) (commandOf 86 n) next r refl refl
+  set-one n effects.acceleration (next, r) = sets-to 1 n (withSetting Acceleration n (u .core .settings)) (commandOf 76 n) next r refl refl
+  set-one n effects.flag (next, r) = sets-to 2 n (withSetting FlagLevel n (u .core .settings)) (commandOf 102 n) next r refl refl
+  set-one n effects.turned (next, r) = sets-to 3 n (withSetting Turned n (u .core .settings)) (commandOf 70 n) next r refl refl
+  set-one n effects.move-current (next, r) = sets-to 4 n (withSetting MoveCurrent n (u .core .settings)) (commandOf 109 n) next r refl refl
+  set-one n effects.hold-current (next, r) = sets-to 5 n (withSetting HoldCurrent n (u .core .settings)) (commandOf 104 n) next r refl refl
+  set-one n effects.correction (next, r) = sets-to 7 n (withSetting Correction n (u .core .settings)) (commandOf 111 n) next r refl refl
+  set-one n effects.outputs (next, r) = sets-to 8 n (withSetting Outputs n (u .core .settings)) (commandOf 74 n) next r refl refl
+  set-one n effects.baud (next, r) = sets-to 9 n (withSetting Baud n (u .core .settings)) (commandOf 98 n) next r refl refl
 
   set-step : (e : ℕ) → e ≤ 8 → Takes t 106 (2 ^ e) → Sets t 6 e
   unfolding commandTaken acted commandOf find table
-  set-step e l (next, r) = sets-to 6 e (withExponent e (u .core .settings)) (commandOf 106 (2 ^ e)) next r (rw (exponent-complete e l)) refl
+  set-step e l (next, r) = sets-to 6 e (withSetting StepSize (2 ^ e) (u .core .settings)) (commandOf 106 (2 ^ e)) next r refl (rw (exponent-complete e l))
 
   -- the motor once the report is counted
   abbrev now : Motor
@@ -423,15 +424,17 @@ module _ (u : Drive) (sample ms steps : ℕ) (image : List ℕ) (run : u .core .
   abbrev Fails : Moved → Type 0
   Fails r = waited r .core .running ≡ false → waited r .core .motor .known ≡ false
 
-  leg-fails : (away : Bool) (left n : ℕ) → u .core .motor .wait ≡ Wait.Leg away left n → Fails (served-by (Wait.Leg away left n))
-  unfolding served legOn ended stopped reported
-  leg-fails away left n e =
-      cases Fails (awaited away (u .core .settings .flag) sample) (λ q z. clash run (ends away z))
+  away-fails : (left n : ℕ) → u .core .motor .wait ≡ Wait.LegAway left n → Fails (served-by (Wait.LegAway left n))
+  unfolding served awayOn ended stopped reported
+  away-fails left n e =
+      cases Fails (clear (u .core .settings .flag) sample) (λ q z. clash run z)
       (λ q. cases Fails (leb left steps) (λ l z. rw e refl) (λ l z. clash run z))
-    where
-      ends : (b : Bool) → waited (Goes (legEnded b n now)) .core .running ≡ false → u .core .running ≡ false
-      ends true z = z
-      ends false z = z
+
+  toward-fails : (left : ℕ) → u .core .motor .wait ≡ Wait.LegToward left → Fails (served-by (Wait.LegToward left))
+  unfolding served towardOn ended stopped reported
+  toward-fails left e =
+      cases Fails (cut (u .core .settings .flag) sample) (λ q z. clash run z)
+      (λ q. cases Fails (leb left steps) (λ l z. rw e refl) (λ l z. clash run z))
 
   homing-fails : homing (u .core .motor .wait) ≡ true → then t .core .running ≡ false → then t .core .motor .known ≡ false
   homing-fails = go (u .core .motor .wait) refl
@@ -439,22 +442,28 @@ module _ (u : Drive) (sample ms steps : ℕ) (image : List ℕ) (run : u .core .
       go : (w : Wait) → u .core .motor .wait ≡ w → homing w ≡ true → then t .core .running ≡ false → then t .core .motor .known ≡ false
       go Wait.Nothing e h = absurd (false≢true h)
       go (Wait.Move up endless left) e h = absurd (false≢true h)
-      go (Wait.Leg away left n) e h = subst (λ (v : Drive). v .core .running ≡ false → v .core .motor .known ≡ false) (sym (at-turn (Wait.Leg away left n) e refl)) (leg-fails away left n e)
+      go (Wait.LegAway left n) e h = subst (λ (v : Drive). v .core .running ≡ false → v .core .motor .known ≡ false) (sym (at-turn (Wait.LegAway left n) e refl)) (away-fails left n e)
+      go (Wait.LegToward left) e h = subst (λ (v : Drive). v .core .running ≡ false → v .core .motor .known ≡ false) (sym (at-turn (Wait.LegToward left) e refl)) (toward-fails left e)
       go (Wait.Delay left) e h = absurd (false≢true h)
       go (Wait.Input digits) e h = absurd (false≢true h)
 
   abbrev Finds : Drive → Type 0
   Finds v = v .core .running ≡ true → homing (v .core .motor .wait) ≡ false → Plainly u v sample Wait.Nothing 0 true
 
-  leg-finds : (away : Bool) (left n : ℕ) → Finds (waited (served-by (Wait.Leg away left n)))
-  unfolding served legOn ended reported
-  leg-finds away left n =
-      cases (λ (r : Moved). Finds (waited r)) (awaited away (u .core .settings .flag) sample) (λ q. found away)
+  away-finds : (left n : ℕ) → Finds (waited (served-by (Wait.LegAway left n)))
+  unfolding served awayOn ended reported
+  away-finds left n =
+      cases (λ (r : Moved). Finds (waited r)) (clear (u .core .settings .flag) sample) (λ q z y. absurd (false≢true (sym y)))
+      (λ q. cases (λ (r : Moved). Finds (waited r)) (leb left steps) (λ l z. absurd (false≢true z)) (λ l z y. absurd (false≢true (sym y))))
+
+  toward-finds : (left : ℕ) → Finds (waited (served-by (Wait.LegToward left)))
+  unfolding served towardOn ended reported
+  toward-finds left =
+      cases (λ (r : Moved). Finds (waited r)) (cut (u .core .settings .flag) sample) (λ q z y. found)
       (λ q. cases (λ (r : Moved). Finds (waited r)) (leb left steps) (λ l z. absurd (false≢true z)) (λ l z y. absurd (false≢true (sym y))))
     where
-      found : (b : Bool) → Finds (waited (Goes (legEnded b n now)))
-      found true z y = absurd (false≢true (sym y))
-      found false z y = record {
+      found : Plainly u (waited (Goes (placedAt 0 now))) sample Wait.Nothing 0 true
+      found = record {
         goes = record { runs = run; text-same = refl; loaded-same = refl; code-same = refl; waits = refl; position = refl; known = refl; keeps-sample = refl };
         settings-same = refl;
       }
@@ -465,7 +474,8 @@ module _ (u : Drive) (sample ms steps : ℕ) (image : List ℕ) (run : u .core .
       go : (w : Wait) → u .core .motor .wait ≡ w → homing w ≡ true → Finds (then t)
       go Wait.Nothing e h = absurd (false≢true h)
       go (Wait.Move up endless left) e h = absurd (false≢true h)
-      go (Wait.Leg away left n) e h = subst Finds (sym (at-turn (Wait.Leg away left n) e refl)) (leg-finds away left n)
+      go (Wait.LegAway left n) e h = subst Finds (sym (at-turn (Wait.LegAway left n) e refl)) (away-finds left n)
+      go (Wait.LegToward left) e h = subst Finds (sym (at-turn (Wait.LegToward left) e refl)) (toward-finds left)
       go (Wait.Delay left) e h = absurd (false≢true h)
       go (Wait.Input digits) e h = absurd (false≢true h)
 
@@ -513,7 +523,8 @@ module _ (a : Motor) (e : a .last ≡ actionOf (a .wait)) where
       go : (w : Wait) → homing w ≡ true → actionOf w .counts ≡ false
       go Wait.Nothing q = refl
       go (Wait.Move up endless left) q = absurd (false≢true q)
-      go (Wait.Leg away left n) q = refl
+      go (Wait.LegAway left n) q = refl
+      go (Wait.LegToward left) q = refl
       go (Wait.Delay left) q = refl
       go (Wait.Input digits) q = refl
 

@@ -10,7 +10,7 @@ use Rattle.commands.specs.Table.{top, commandOf}
 use Rattle.motor.specs.declared.Wait.{Wait}
 use Rattle.motor.specs.Inputs.{levelThere, falls}
 use Rattle.motor.specs.Motion.{last}
-use Rattle.turns.specs.declared.Settings.{Settings}
+use Rattle.turns.specs.declared.setting.Settings.{Settings}
 use Rattle.turns.specs.declared.Direction.{Direction}
 use Rattle.turns.specs.Ends.{Reads, positionThen}
 use Rattle.drive.specs.Unit.{Drive}
