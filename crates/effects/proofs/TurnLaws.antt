@@ -52,7 +52,7 @@ use Rattle.runs.proofs.CallLaws.{feed-cases, turn-cases, turn-made}
 use Rattle.runs.proofs.CommandLaws.{turned}
 use Rattle.effects.specs.Bodies.{homing}
 use Rattle.effects.specs.Turns as effects
-use Rattle.effects.specs.Turns.{Defaults, SameRun, Letter, Homes, Keeps, Flowing, listed, Plainly, SetsOne, then, Takes, here, Leads, Sets, ATurn, aTurn, EachCommand, EachWait, Resting, Answers}
+use Rattle.effects.specs.Turns.{Defaults, SameRun, Letter, Homes, Keeps, Idles, Flowing, listed, Plainly, SetsOne, then, Takes, here, Leads, Sets, ATurn, aTurn, EachCommand, EachWait, Resting, Answers}
 
 -- ---- a fresh start
 
@@ -154,6 +154,22 @@ serves u sample ms steps image h = turn-same u sample ms steps image (wait-step 
 
 pub idles : (u : Drive) (sample ms steps : ℕ) (image : List ℕ) → u .core .running ≡ false → SameRun u (after (Turn sample ms steps image) u)
 idles u sample ms steps image h = turn-same u sample ms steps image (idle-step sample ms steps (textOf u) image (u .core) h)
+
+at-idle : (sample ms steps : ℕ) (t image : List ℕ) (c : Core) → c .running ≡ false
+    → stepOf sample ms steps t image c ≡ stays (withMotor (waiting Wait.Nothing (reported sample steps (c .motor))) c)
+unfolding stepOf
+at-idle sample ms steps t image c h = rw h
+
+pub idle : (u : Drive) (sample ms steps : ℕ) (image : List ℕ) → u .core .running ≡ false → Made u sample steps image
+    → Idles u (after (Turn sample ms steps image) u) sample (here (aTurn u sample ms steps image))
+unfolding turnCore reported
+idle u sample ms steps image h m =
+    let e = turn-made u sample ms steps image m ∙ ap (λ (s : Stepped). turnTaken (settled s) image u .unit) (at-idle sample ms steps (textOf u) image (u .core) h) in
+    subst (λ (v : Drive). Idles u v sample (here (aTurn u sample ms steps image))) (sym e) (record {
+      keeps = record { settings-same = refl; loaded-same = refl; free = refl; position = refl; known-same = refl; keeps-sample = refl };
+      stays-idle = h;
+      code-same = refl;
+    })
 
 -- ---- a command taken
 

@@ -12,7 +12,7 @@ use Rattle.drive.specs.Calls.{startOf, turnOf}
 use Rattle.runs.specs.Reach.{Feed, Turn, after}
 use Rattle.runs.specs.Causes.{Made}
 use Rattle.effects.specs.Bodies.{EachBody}
-use Rattle.effects.specs.Turns.{Defaults, SameRun, aTurn, EachCommand, EachWait, Answers}
+use Rattle.effects.specs.Turns.{Defaults, SameRun, Idles, aTurn, here, EachCommand, EachWait, Answers}
 
 pub record EffectClaims : Type 0 where
   pub defaults : (number : ℕ) (image body text : List ℕ) → startOf number image body text .answer ≡ StartAnswer.Started
@@ -24,6 +24,8 @@ pub record EffectClaims : Type 0 where
   pub serves : (u : Drive) (sample ms steps : ℕ) (image : List ℕ) → (u .core .motor .wait ≡ Wait.Nothing → ⊥)
       → SameRun u (after (Turn sample ms steps image) u)
   pub idles : (u : Drive) (sample ms steps : ℕ) (image : List ℕ) → u .core .running ≡ false → SameRun u (after (Turn sample ms steps image) u)
+  pub idle : (u : Drive) (sample ms steps : ℕ) (image : List ℕ) → u .core .running ≡ false → Made u sample steps image
+      → Idles u (after (Turn sample ms steps image) u) sample (here (aTurn u sample ms steps image))
   pub waits : (u : Drive) (sample ms steps : ℕ) (image : List ℕ) → u .core .running ≡ true → Made u sample steps image
       → EachWait (aTurn u sample ms steps image)
   pub commands : (u : Drive) (sample ms steps : ℕ) (image : List ℕ) → u .core .running ≡ true → Made u sample steps image

@@ -104,6 +104,12 @@ pub record Keeps (u v : Drive) (sample p : ℕ) : Type 0 where
   pub known-same : v .core .motor .known ≡ u .core .motor .known
   pub keeps-sample : v .core .motor .sample ≡ sample
 
+-- a turn of an idle unit: its report is counted and its sample kept
+pub record Idles (u v : Drive) (sample p : ℕ) : Type 0 where
+  pub keeps : Keeps u v sample p
+  pub stays-idle : v .core .running ≡ false
+  pub code-same : v .core .code ≡ u .core .code
+
 -- the letters of the commands that lead through the text: `g G S e`
 pub data Flowing : ℕ → Type 0 where
   begins : Flowing 103
