@@ -290,17 +290,22 @@ module _ (u : Drive) (sample ms steps : ℕ) (image : List ℕ) (run : u .core .
       leads-to (Wait.Move false false (p - n)) _ true (waiting (Wait.Move false false (p - n)) now) (commandOf 65 n) next r
       (rw (k, ne-eqb n p (λ z. omega arith), lt-ltb n p l, le-leb (p - n) p (omega arith))) refl refl k refl
 
+  -- a leg begun
+  leg-begun : (w : Wait) (next : ℕ) → homing w ≡ true → Homes u (moving (waiting w now) next) sample (here t)
+  unfolding reported
+  leg-begun w next h = record {
+    leg = h;
+    plainly = record {
+      goes = record { runs = run; text-same = refl; loaded-same = refl; code-same = refl; waits = refl; position = refl; known = refl; keeps-sample = refl };
+      settings-same = refl;
+    };
+  }
+
   homes : (n : ℕ) → Takes t 90 n → Homes u (then t) sample (here t)
-  unfolding commandTaken acted commandOf find table reported homed
+  unfolding commandTaken acted commandOf find table homed
   homes n (next, r) =
-      let leg = cases (λ (w : Wait). homing w ≡ true) (cut (u .core .settings .flag) sample) (λ q. refl) (λ q. refl) in
-      subst (λ (v : Drive). Homes u v sample (here t)) (sym (turned u run sample ms steps image m (commandOf 90 n) next r)) (record {
-        leg = leg;
-        plainly = record {
-          goes = record { runs = run; text-same = refl; loaded-same = refl; code-same = refl; waits = refl; position = refl; known = refl; keeps-sample = refl };
-          settings-same = refl;
-        };
-      })
+      subst (λ (v : Drive). Homes u v sample (here t)) (sym (turned u run sample ms steps image m (commandOf 90 n) next r))
+      (cases (λ (a : Motor). Homes u (moving a next) sample (here t)) (cut (u .core .settings .flag) (now .sample)) (λ q. leg-begun _ next refl) (λ q. leg-begun _ next refl))
 
   -- a command that leads through the text, whether the run goes on or not
   abbrev Kept : Core → Type 0
