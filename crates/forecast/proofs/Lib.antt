@@ -1,3 +1,4 @@
 pub mod BoundLaws
 pub mod TallyLaws
 pub mod CountLaws
+pub mod BodyLaws

@@ -1,79 +1,40 @@
+-- `forecast::count` meets its contract: each arm knows what the body is. Assumes nothing.
+use mathlib.Core.Path.{refl, sym, _∙_}
 use borrow.Author.Needs.{needs}
+use Rattle.forecast.proofs.BodyLaws.{body-refused, body-none, body-line}
 use Rattle.forecast.proofs.count.Statement.{statement}
 use Rattle.forecast.proofs.count.Tie as tie
-use Rattle.forecast.proofs.count.Reads as reads
-use Rattle.forecast.proofs.count.Lts as lts
-use Rattle.forecast.proofs.count_line.Reads as count-line-reads
-use Rattle.lines.proofs.body_of.Reads as body-of-reads
 
--- src/lib.rt:39:9
-body-of-requires : tie.Need-body-of-requires
-body-of-requires c κs = search needs
-
--- src/lib.rt:41:23
-enum-known-kind : tie.Need-enum-known-kind
-enum-known-kind c = search needs
-
--- src/lib.rt:42:24
-enum-told : tie.Need-enum-told
-enum-told c = search needs
-
--- src/lib.rt:43:31
-enum-told-2 : tie.Need-enum-told-2
-enum-told-2 c = search needs
-
--- src/lib.rt:44:22
-enum-told-3 : tie.Need-enum-told-3
-enum-told-3 c = search needs
-
--- src/lib.rt:45:24
-enum-told-4 : tie.Need-enum-told-4
-enum-told-4 c = search needs
-
--- src/lib.rt:46:23
-enum-told-5 : tie.Need-enum-told-5
-enum-told-5 c = search needs
-
--- src/lib.rt:46:23
-count-line-requires : tie.Need-count-line-requires
-count-line-requires c κs = search needs
-
--- src/lib.rt:36:1
 returns : tie.Need-returns
-returns c = ?
+returns c = body-refused _ _ (sym (c .before .before .before .body-of .ensures) ∙ c .before .kind .given .1)
 
--- src/lib.rt:36:1
 returns-2 : tie.Need-returns-2
-returns-2 c = ?
+returns-2 c = body-none _ _ (sym (c .before .before .body-of .ensures) ∙ c .enum-told .given .1) refl refl
 
--- src/lib.rt:36:1
 returns-3 : tie.Need-returns-3
-returns-3 c = ?
+returns-3 c = body-none _ _ (sym (c .before .before .body-of .ensures) ∙ c .enum-told2 .given .1) refl refl
 
--- src/lib.rt:36:1
 returns-4 : tie.Need-returns-4
-returns-4 c = ?
+returns-4 c = body-none _ _ (sym (c .before .before .body-of .ensures) ∙ c .enum-told3 .given .1) refl refl
 
--- src/lib.rt:36:1
 returns-5 : tie.Need-returns-5
-returns-5 c = ?
+returns-5 c = body-none _ _ (sym (c .before .before .body-of .ensures) ∙ c .enum-told4 .given .1) refl refl
 
--- src/lib.rt:36:1
 returns-6 : tie.Need-returns-6
-returns-6 c = ?
+returns-6 c = c .count-line .ensures ∙ body-line _ (sym (c .before .before .before .body-of .ensures) ∙ c .before .enum-told5 .given .1)
 
 pub count-spec : {M : Type 1} → statement M
 count-spec =
     tie.close
     (tie.spec
-    body-of-requires
-    enum-known-kind
-    enum-told
-    enum-told-2
-    enum-told-3
-    enum-told-4
-    enum-told-5
-    count-line-requires
+    (λ c κs. search needs)
+    (λ c. search needs)
+    (λ c. search needs)
+    (λ c. search needs)
+    (λ c. search needs)
+    (λ c. search needs)
+    (λ c. search needs)
+    (λ c κs. search needs)
     returns
     returns-2
     returns-3
