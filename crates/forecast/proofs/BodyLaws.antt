@@ -14,7 +14,7 @@ use Rattle.commands.specs.Table.{oneOf}
 use Rattle.commands.specs.Reading.{fault, readAt}
 use Rattle.lines.specs.declared.Body.{Body}
 use Rattle.lines.specs.declared.Taken.{Taken}
-use Rattle.lines.specs.Texts.{readingIn, readingFrom, mostBytes}
+use Rattle.lines.specs.Texts.{readingIn, readingFrom, structured, lineJudged, mostBytes}
 use Rattle.lines.specs.Bodies.{Row, immediates, immediateIn, beginsImmediate, otherOf, bodyOf, lineOf, takenCode, bodyCode, lineCode}
 use Rattle.lines.specs.Loops.{Checked}
 use Rattle.lines.proofs.CodeLaws.{Code, two, TakenCode, taken-code}
@@ -102,3 +102,26 @@ body-line b e = go (lineOf b) refl
     go (Taken.Refused f) z = told-code b f (subst TakenCode z (line-code b)) (rw (e, z))
     go (Taken.Line n run) z = rw (e, z) (text-counted (take n b) (held b n run z .checked))
     go (Taken.Store slot at n) z = rw (e, z) (text-counted (part b at n) (text-checked _ (stored b slot at n z (short b e) .good)))
+
+-- ---- the text of a body passed the check, whatever the body is
+
+empty-checked : Checked []
+unfolding lineJudged readingIn readingFrom readAt structured
+empty-checked = refl
+
+pub text-of-checked : (b : List ℕ) → Checked (bodyText b)
+unfolding bodyText
+text-of-checked b = go (bodyOf b) refl
+  where
+    line : (x : Taken) → bodyOf b ≡ Body.Line → lineOf b ≡ x → Checked (takenText x b)
+    line (Taken.Refused f) e z = empty-checked
+    line (Taken.Line n run) e z = held b n run z .checked
+    line (Taken.Store slot at n) e z = text-checked _ (stored b slot at n z (short b e) .good)
+
+    go : (k : Body) → bodyOf b ≡ k → Checked (textIn k b)
+    go (Body.Refused f) e = empty-checked
+    go Body.Empty e = empty-checked
+    go (Body.Immediate i) e = empty-checked
+    go Body.Run e = empty-checked
+    go Body.Again e = empty-checked
+    go Body.Line e = line (lineOf b) e refl

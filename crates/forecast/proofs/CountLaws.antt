@@ -115,8 +115,8 @@ close-tied y n b a s p t =
       past = λ o. let h = t .past o in omega arith;
     })
     (λ e.
-      let l : mostCounted < y .first + n * (y .here + 1) = leb-false _ _ e in
-      over-now y (b ∷ a ∷ s) ((a + n * (b + 1)) ∷ s) t (omega arith) (λ g. let z = sum-same (g .0) (g .1 .0) in omega arith))
+    let l : mostCounted < y .first + n * (y .here + 1) = leb-false _ _ e in
+    over-now y (b ∷ a ∷ s) ((a + n * (b + 1)) ∷ s) t (omega arith) (λ g. let z = sum-same (g .0) (g .1 .0) in omega arith))
   where
     sum-same : {h f : ℕ} → b ≡ h → a ≡ f → a + n * (b + 1) ≡ f + n * (h + 1)
     sum-same e f = rw (e, f)

@@ -2,3 +2,4 @@ pub mod BoundLaws
 pub mod TallyLaws
 pub mod CountLaws
 pub mod BodyLaws
+pub mod ToldLaws

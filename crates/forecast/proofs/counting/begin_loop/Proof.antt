@@ -14,7 +14,7 @@ one-more-requires c κs = search needs
 returns : tie.Need-returns
 returns c =
     simp (
-        c .one-more .ensures
+    c .one-more .ensures
     )
 
 pub begin-loop-spec : {M : Type 1} → statement M

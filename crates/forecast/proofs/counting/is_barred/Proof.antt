@@ -81,14 +81,14 @@ returns c = search needs
 returns-2 : tie.Need-returns-2
 returns-2 c =
     simp (
-        c .before .a .given .1
+    c .before .a .given .1
     )
 
 -- src/counting.rt:93:1
 returns-3 : tie.Need-returns-3
 returns-3 c =
     simp (
-        c .before .a2 .given .1
+    c .before .a2 .given .1
     )
 
 -- src/counting.rt:93:1

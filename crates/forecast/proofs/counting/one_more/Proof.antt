@@ -13,16 +13,16 @@ add-u c = search needs
 returns : tie.Need-returns
 returns c =
     simp (
-        lt-ltb _ _ (c .before .if1 .taken),
-        lt-leb _ _ (c .before .if1 .taken)
+      lt-ltb _ _ (c .before .if1 .taken),
+      lt-leb _ _ (c .before .if1 .taken),
     )
 
 -- src/counting.rt:70:1
 returns-2 : tie.Need-returns-2
 returns-2 c =
     simp (
-        le-leb _ _ (c .if1 .left),
-        le-ltb _ _ (c .if1 .left)
+      le-leb _ _ (c .if1 .left),
+      le-ltb _ _ (c .if1 .left),
     )
 
 pub one-more-spec : {M : Type 1} → statement M

@@ -53,40 +53,40 @@ tally-plain-requires c κs = search needs
 returns : tie.Need-returns
 returns c =
     simp (
-        c .begin-loop .ensures,
-        c .before .enum-told .given .1
+      c .begin-loop .ensures,
+      c .before .enum-told .given .1,
     )
 
 -- src/counting.rt:48:1
 returns-2 : tie.Need-returns-2
 returns-2 c =
     simp (
-        c .end-loop .ensures,
-        c .before .before .c .given .1
+      c .end-loop .ensures,
+      c .before .before .c .given .1,
     )
 
 -- src/counting.rt:48:1
 returns-3 : tie.Need-returns-3
 returns-3 c =
     simp (
-        c .mark .ensures,
-        c .before .enum-told2 .given .1
+      c .mark .ensures,
+      c .before .enum-told2 .given .1,
     )
 
 -- src/counting.rt:48:1
 returns-4 : tie.Need-returns-4
 returns-4 c =
     simp (
-        c .mark2 .ensures,
-        c .before .enum-told3 .given .1
+      c .mark2 .ensures,
+      c .before .enum-told3 .given .1,
     )
 
 -- src/counting.rt:48:1
 returns-5 : tie.Need-returns-5
 returns-5 c =
     simp (
-        c .tally-plain .ensures,
-        c .before .before .c2 .given .1
+      c .tally-plain .ensures,
+      c .before .before .c2 .given .1,
     )
 
 pub tally-one-spec : {M : Type 1} → statement M

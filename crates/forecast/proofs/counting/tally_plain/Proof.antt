@@ -20,9 +20,9 @@ mark-requires c κs = search needs
 returns : tie.Need-returns
 returns c =
     simp (
-        c .mark .ensures,
-        c .before .if1 .taken,
-        ← c .before .before .is-barred .ensures
+      c .mark .ensures,
+      c .before .if1 .taken,
+      ← c .before .before .is-barred .ensures,
     )
 
 -- src/counting.rt:89:5
@@ -33,9 +33,9 @@ one-more-requires c κs = search needs
 returns-2 : tie.Need-returns-2
 returns-2 c =
     simp (
-        c .one-more .ensures,
-        c .before .if1 .left,
-        ← c .before .before .is-barred .ensures
+      c .one-more .ensures,
+      c .before .if1 .left,
+      ← c .before .before .is-barred .ensures,
     )
 
 pub tally-plain-spec : {M : Type 1} → statement M
