@@ -321,7 +321,8 @@ fn waiting(wait: Wait) -> Waited {
     match wait {
         Wait::Nothing => waits(NOTHING, 0),
         Wait::Move { up, endless, left } => waits_for_move(endless, left),
-        Wait::Leg { away, left, span } => waits_for_leg(away, left),
+        Wait::LegAway { left, span } => waits(AWAY, left),
+        Wait::LegToward(left) => waits(TOWARD, left),
         Wait::Delay(left) => waits(DELAY, left),
         Wait::Input(digits) => waits(INPUT, digits),
     }
@@ -332,13 +333,6 @@ fn waits_for_move(endless: bool, left: u32) -> Waited {
         return waits(ENDLESS, left);
     }
     waits(MOVE, left)
-}
-
-fn waits_for_leg(away: bool, left: u32) -> Waited {
-    if away {
-        return waits(AWAY, left);
-    }
-    waits(TOWARD, left)
 }
 
 fn waits(what: usize, number: u32) -> Waited {

@@ -24,10 +24,13 @@ use Rattle.host.specs.Claims.{HostClaims}
 use Rattle.turns.specs.declared.Core.{Core}
 use Rattle.obeying.specs.declared.Obeyed.{Obeyed}
 use Rattle.obeying.specs.Obeying.{bodyObeyed, textWritten, imageWritten}
+use Rattle.drive.specs.Unit.{Drive}
 use Rattle.stream.specs.Claims.{StreamClaims}
+use Rattle.runs.specs.Reach.{Reached}
 use Rattle.runs.specs.Packets.{PacketClaims}
 use Rattle.effects.specs.Claims.{EffectClaims}
 use Rattle.claims.specs.Moves.{MoveTurns}
+use Rattle.claims.specs.Joined.{Joined}
 
 -- "With `R` it runs; without, it is loaded and held; either way its commands .. become the current text", of an idle unit
 pub record Loads (b : List ℕ) (n : ℕ) (run : Bool) (c : Core) (text image : List ℕ) (o : Obeyed) : Type 0 where
@@ -71,6 +74,8 @@ pub record Demand2 : Type 0 where
   -- "every answer byte"
   pub answers : AnswerClaims
   pub packets : PacketClaims
+  -- from bytes to answer, of every unit that any calls in any order lead to
+  pub joined : {u : Drive} → Reached u → Joined u
   -- "every ramp figure"
   pub ramps : RampClaims
   -- "A line written from a list of commands reads back as that list"

@@ -2,7 +2,7 @@
 use Prim.Native.Nat.{ℕ, min}
 use mathlib.Core.Path.{_≡_, refl, sym, ap, _∙_}
 use mathlib.Core.List.{List, []}
-use mathlib.Core.Bool.{false, cond}
+use mathlib.Core.Bool.{Bool, false, cond}
 use native.Mathlib.Omega.{arith}
 use Rattle.parts.specs.Parts.{same}
 use Rattle.commands.specs.Table.{oneOf}
@@ -13,9 +13,8 @@ use Rattle.lines.specs.Bodies.{immediates, immediateIn, bodyOf}
 use Rattle.image.specs.Calls.{afterClear}
 use Rattle.flow.specs.Flow.{begun}
 use Rattle.motor.specs.declared.Wait.{Wait}
-use Rattle.motor.specs.declared.Wait.the-variants.{Nothing, Move, Leg, Delay, Input}
-use Rattle.motor.specs.declared.Motor.{Motor}
-use Rattle.motor.specs.Motion.{abandoned, stopped}
+use Rattle.motor.specs.declared.Wait.the-variants.{Nothing, Move, LegAway, LegToward, Delay, Input}
+use Rattle.motor.specs.Motion.{isLeg, stopped}
 use Rattle.turns.specs.declared.Core.{Core}
 use Rattle.turns.specs.Turns.{started, ended}
 use Rattle.obeying.specs.declared.Tell.{Tell}
@@ -24,25 +23,13 @@ use Rattle.obeying.specs.Obeying.{bodyObeyed, kindObeyed, dataOf, textWritten, 
 use Rattle.effects.specs.Bodies.{coreBy, Makes, homing, Stopped, Started, Turns-to, EachBody}
 
 -- what is waited for is given up
-given-up : (w : Wait) (m : Motor) → abandoned w m .known ≡ cond (homing w) false (m .known)
-given-up Nothing m = refl
-given-up (Move up endless left) m = refl
-given-up (Leg away left n) m = refl
-given-up (Delay left) m = refl
-given-up (Input digits) m = refl
-
-record Given-up (m n : Motor) : Type 0 where
-  pub free : n .wait ≡ Nothing
-  pub position : n .position ≡ m .position
-  pub sample : n .sample ≡ m .sample
-  pub last : n .last ≡ m .last
-
-gives-up : (w : Wait) (m : Motor) → Given-up m (abandoned w m)
-gives-up Nothing m = record { free = refl; position = refl; sample = refl; last = refl }
-gives-up (Move up endless left) m = record { free = refl; position = refl; sample = refl; last = refl }
-gives-up (Leg away left n) m = record { free = refl; position = refl; sample = refl; last = refl }
-gives-up (Delay left) m = record { free = refl; position = refl; sample = refl; last = refl }
-gives-up (Input digits) m = record { free = refl; position = refl; sample = refl; last = refl }
+given-up : (w : Wait) (k : Bool) → cond (isLeg w) false k ≡ cond (homing w) false k
+given-up Nothing k = refl
+given-up (Move up endless left) k = refl
+given-up (LegAway left n) k = refl
+given-up (LegToward left) k = refl
+given-up (Delay left) k = refl
+given-up (Input digits) k = refl
 
 module _ (c : Core) (text image : List ℕ) where
   kind : (b : List ℕ) (k : Body) → bodyOf b ≡ k → bodyObeyed b c ≡ kindObeyed k b c
@@ -64,17 +51,17 @@ module _ (c : Core) (text image : List ℕ) where
 
   is-stopped : Stopped c (ended (c .code) c)
   unfolding ended stopped
-  is-stopped = let g = gives-up (c .motor .wait) (c .motor) in record {
+  is-stopped = record {
     stops = refl;
     flow-same = refl;
     settings-same = refl;
     loaded-same = refl;
     code-same = refl;
-    free = g .free;
-    position-same = g .position;
-    sample-same = g .sample;
-    last-same = g .last;
-    known = given-up (c .motor .wait) (c .motor);
+    free = refl;
+    position-same = refl;
+    sample-same = refl;
+    last-same = refl;
+    known = given-up (c .motor .wait) (c .motor .known);
   }
 
   is-started : Started c (started (c .flow .length) c)

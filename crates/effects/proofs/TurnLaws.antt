@@ -5,7 +5,7 @@ use mathlib.Core.List.{List}
 use mathlib.Core.Bool.{Bool, true, false, cond, false≢true}
 use native.Mathlib.Omega.{arith}
 use lib.ListN.{length, set}
-use lib.Dec.{leb, eqb}
+use lib.Dec.{ltb, leb, eqb}
 use borrow.Author.Tests.{le-ltb, lt-ltb, le-leb, lt-leb, eq-eqb, ne-eqb, eqb-true}
 use Rattle.parts.proofs.Laws.{cases}
 use Rattle.commands.specs.declared.Command.{Command}
@@ -14,7 +14,7 @@ use Rattle.commands.specs.declared.Read.the-variants.{At, Bad, End}
 use Rattle.commands.specs.Table.{top, table, find, commandOf}
 use Rattle.commands.specs.Reading.{readAt}
 use Rattle.commands.proofs.TableLaws.{exponent-complete}
-use Rattle.frames.specs.Receive.{bodyIn}
+use Rattle.frames.specs.Receive.{Receiver, bodyIn}
 use Rattle.image.specs.Image.{slotGood, slotText}
 use Rattle.flow.specs.declared.Flow.{Flow}
 use Rattle.flow.specs.declared.Flowed.{Flowed}
@@ -24,23 +24,26 @@ use Rattle.motor.specs.declared.Motor.{Motor}
 use Rattle.motor.specs.declared.Last.{Last}
 use Rattle.motor.specs.declared.Moved.{Moved}
 use Rattle.motor.specs.declared.Moved.the-variants.{Goes, Stops}
-use Rattle.motor.specs.Inputs.{levelThere, falls, cut}
-use Rattle.motor.specs.Motion.{waiting, placedAt, room, reported, finite, homed, movedOn, relative, absolute, delayed, held, delayOn, endlessOn, legOn, awaited, legEnded, stopped, served}
+use Rattle.motor.specs.Inputs.{levelThere, falls, cut, clear}
+use Rattle.motor.specs.Motion.{fresh, last, waiting, placedAt, actionOf, room, reported, finite, homed, movedOn, relative, absolute, delayed, held, delayOn, endlessOn, toward, awayOn, towardOn, isFree, stopped, served}
 use Rattle.turns.specs.declared.Core.{Core}
-use Rattle.turns.specs.declared.Settings.{Settings}
+use Rattle.turns.specs.declared.setting.Settings.{Settings}
 use Rattle.turns.specs.declared.Stepped.{Stepped}
 use Rattle.turns.specs.declared.Action.{Action}
 use Rattle.turns.specs.declared.Direction.{Direction}
-use Rattle.turns.specs.Settings.{withSpeed, withAcceleration, withFlag, withTurned, withMoveCurrent, withHoldCurrent, withExponent, withCorrection, withOutputs, withBaud}
-use Rattle.turns.specs.Turns.{withFlow, withMotor, withSettings, ended, astray, moved, acted, flowed, skipped, jumped, skipTaken, commandTaken, stays, settled, isFree, stepOf, turnCore, textAfter, actionAnswered}
+use Rattle.commands.specs.declared.Setting.the-variants.{TopSpeed, Acceleration, FlagLevel, Turned, MoveCurrent, HoldCurrent, StepSize, Correction, Outputs, Baud}
+use Rattle.turns.specs.Settings.{defaults, withSetting}
+use Rattle.turns.specs.Turns.{freshCore, started, withFlow, withMotor, withSettings, ended, astray, moved, acted, flowed, skipped, jumped, skipTaken, commandTaken, stays, settled, stepOf, turnCore, textAfter, actionAnswered}
 use Rattle.turns.specs.Ends.{Reads}
 use Rattle.turns.proofs.MoveLaws.{clash}
-use Rattle.turns.proofs.TurnLaws.{at-wait}
+use Rattle.turns.proofs.TurnLaws.{at-wait, turn-last}
 use Rattle.obeying.specs.declared.Obeyed.{Obeyed}
 use Rattle.obeying.specs.Obeying.{textWritten}
 use Rattle.obeying.specs.Deeds.{Obeys, refuses, tells, stores, clears, stops, resumes, again, loads}
-use Rattle.drive.specs.Unit.{Drive}
-use Rattle.drive.specs.Calls.{mostSample, receivedBy, Turning, turnTaken, turnOf}
+use Rattle.drive.specs.declared.StartAnswer.{StartAnswer}
+use Rattle.drive.specs.Unit.{Drive, drive}
+use Rattle.drive.specs.Calls.{freshUnit, startOf, mostSample, receivedBy, Turning, turnTaken, turnOf}
+use Rattle.drive.proofs.StartLaws.{started-unit}
 use Rattle.drive.proofs.FeedLaws.{frame-does}
 use Rattle.keeping.proofs.TurnLaws.{free}
 use Rattle.runs.specs.Reach.{Feed, Turn, after, textOf}
@@ -49,7 +52,49 @@ use Rattle.runs.proofs.CallLaws.{feed-cases, turn-cases, turn-made}
 use Rattle.runs.proofs.CommandLaws.{turned}
 use Rattle.effects.specs.Bodies.{homing}
 use Rattle.effects.specs.Turns as effects
-use Rattle.effects.specs.Turns.{SameRun, Letter, Homes, Keeps, Flowing, listed, Plainly, SetsOne, then, Takes, here, Leads, Sets, EachCommand, EachWait, Answers}
+use Rattle.effects.specs.Turns.{Defaults, SameRun, Letter, Homes, Keeps, Idles, Flowing, listed, Plainly, SetsOne, then, Takes, here, Leads, Sets, ATurn, aTurn, EachCommand, EachWait, Resting, Answers}
+
+-- ---- a fresh start
+
+-- the same of a core
+abbrev Fresh : Core → Type 0
+Fresh c = (number : ℕ) (r : Receiver) (text : List ℕ) → Defaults (drive number r text c)
+
+fresh-core : Fresh freshCore
+unfolding freshCore begun fresh defaults
+fresh-core number r text = record {
+  settings = refl;
+  sample = refl;
+  position = refl;
+  known = refl;
+  free = refl;
+  no-action = refl;
+  not-loaded = refl;
+  code = refl;
+  first = refl;
+  none-open = refl;
+}
+
+started-core : (n : ℕ) → Fresh (started n freshCore)
+unfolding started freshCore begun fresh defaults
+started-core n number r text = record {
+  settings = refl;
+  sample = refl;
+  position = refl;
+  known = refl;
+  free = refl;
+  no-action = refl;
+  not-loaded = refl;
+  code = refl;
+  first = refl;
+  none-open = refl;
+}
+
+pub start-defaults : (number : ℕ) (image body text : List ℕ) → startOf number image body text .answer ≡ StartAnswer.Started → Defaults (startOf number image body text .unit)
+unfolding freshUnit
+start-defaults number image body text e =
+    let n : ℕ = length (slotText image 0) in
+    subst Defaults (sym (started-unit number image body text e)) (cases Fresh (ltb 0 n) (λ q. started-core n) (λ q. fresh-core) number _ _)
 
 -- ---- calls that leave the run where it is
 
@@ -110,9 +155,28 @@ serves u sample ms steps image h = turn-same u sample ms steps image (wait-step 
 pub idles : (u : Drive) (sample ms steps : ℕ) (image : List ℕ) → u .core .running ≡ false → SameRun u (after (Turn sample ms steps image) u)
 idles u sample ms steps image h = turn-same u sample ms steps image (idle-step sample ms steps (textOf u) image (u .core) h)
 
+at-idle : (sample ms steps : ℕ) (t image : List ℕ) (c : Core) → c .running ≡ false
+    → stepOf sample ms steps t image c ≡ stays (withMotor (waiting Wait.Nothing (reported sample steps (c .motor))) c)
+unfolding stepOf
+at-idle sample ms steps t image c h = rw h
+
+pub idle : (u : Drive) (sample ms steps : ℕ) (image : List ℕ) → u .core .running ≡ false → Made u sample steps image
+    → Idles u (after (Turn sample ms steps image) u) sample (here (aTurn u sample ms steps image))
+unfolding turnCore reported
+idle u sample ms steps image h m =
+    let e = turn-made u sample ms steps image m ∙ ap (λ (s : Stepped). turnTaken (settled s) image u .unit) (at-idle sample ms steps (textOf u) image (u .core) h) in
+    subst (λ (v : Drive). Idles u v sample (here (aTurn u sample ms steps image))) (sym e) (record {
+      keeps = record { settings-same = refl; loaded-same = refl; free = refl; position = refl; known-same = refl; keeps-sample = refl };
+      stays-idle = h;
+      code-same = refl;
+    })
+
 -- ---- a command taken
 
 module _ (u : Drive) (sample ms steps : ℕ) (image : List ℕ) (run : u .core .running ≡ true) (m : Made u sample steps image) where
+  abbrev t : ATurn
+  t = aTurn u sample ms steps image
+
   -- what the command makes of the unit
   abbrev made : Command → ℕ → Drive
   made d next = turnTaken (settled (commandTaken d next (textOf u) image (withMotor (reported sample steps (u .core .motor)) (u .core)))) image u .unit
@@ -129,37 +193,37 @@ module _ (u : Drive) (sample ms steps : ℕ) (image : List ℕ) (run : u .core .
 
   -- a command that sets, and one that moves or waits
   sets-to : (i k : ℕ) (s : Settings) (d : Command) (next : ℕ) → Reads (textOf u) (u .core) (At d next) → made d next ≡ setting s next
-      → listed s ≡ set (listed (u .core .settings)) i k → Sets u sample ms steps image i k
+      → listed s ≡ set (listed (u .core .settings)) i k → Sets t i k
   unfolding reported
   sets-to i k s d next r e l =
-      subst (λ (v : Drive). SetsOne u v sample (here u sample ms steps image) i k) (sym (turned u run sample ms steps image m d next r ∙ e)) (record {
+      subst (λ (v : Drive). SetsOne u v sample (here t) i k) (sym (turned u run sample ms steps image m d next r ∙ e)) (record {
         goes = record { runs = run; text-same = refl; loaded-same = refl; code-same = refl; waits = r .free; position = refl; known = refl; keeps-sample = refl };
         sets = l;
       })
 
   leads-to : (w : Wait) (p : ℕ) (k : Bool) (a : Motor) (d : Command) (next : ℕ) → Reads (textOf u) (u .core) (At d next) → made d next ≡ moving a next
-      → a .wait ≡ w → a .position ≡ p → a .known ≡ k → a .sample ≡ sample → Leads u sample ms steps image w p k
+      → a .wait ≡ w → a .position ≡ p → a .known ≡ k → a .sample ≡ sample → Leads t w p k
   leads-to w p k a d next r e x y z q =
       subst (λ (v : Drive). Plainly u v sample w p k) (sym (turned u run sample ms steps image m d next r ∙ e)) (record {
         goes = record { runs = run; text-same = refl; loaded-same = refl; code-same = refl; waits = x; position = y; known = z; keeps-sample = q };
         settings-same = refl;
       })
 
-  set-one : {l i : ℕ} (n : ℕ) → Letter l i → Takes u sample ms steps image l n → Sets u sample ms steps image i n
+  set-one : {l i : ℕ} (n : ℕ) → Letter l i → Takes t l n → Sets t i n
   unfolding commandTaken acted commandOf find table
-  set-one n effects.speed (next, r) = sets-to 0 n (withSpeed n (u .core .settings)) (commandOf 86 n) next r refl refl
-  set-one n effects.acceleration (next, r) = sets-to 1 n (withAcceleration n (u .core .settings)) (commandOf 76 n) next r refl refl
-  set-one n effects.flag (next, r) = sets-to 2 n (withFlag n (u .core .settings)) (commandOf 102 n) next r refl refl
-  set-one n effects.turned (next, r) = sets-to 3 n (withTurned n (u .core .settings)) (commandOf 70 n) next r refl refl
-  set-one n effects.move-current (next, r) = sets-to 4 n (withMoveCurrent n (u .core .settings)) (commandOf 109 n) next r refl refl
-  set-one n effects.hold-current (next, r) = sets-to 5 n (withHoldCurrent n (u .core .settings)) (commandOf 104 n) next r refl refl
-  set-one n effects.correction (next, r) = sets-to 7 n (withCorrection n (u .core .settings)) (commandOf 111 n) next r refl refl
-  set-one n effects.outputs (next, r) = sets-to 8 n (withOutputs n (u .core .settings)) (commandOf 74 n) next r refl refl
-  set-one n effects.baud (next, r) = sets-to 9 n (withBaud n (u .core .settings)) (commandOf 98 n) next r refl refl
+  set-one n effects.speed (next, r) = sets-to 0 n (withSetting TopSpeed n (u .core .settings)) (commandOf 86 n) next r refl refl
+  set-one n effects.acceleration (next, r) = sets-to 1 n (withSetting Acceleration n (u .core .settings)) (commandOf 76 n) next r refl refl
+  set-one n effects.flag (next, r) = sets-to 2 n (withSetting FlagLevel n (u .core .settings)) (commandOf 102 n) next r refl refl
+  set-one n effects.turned (next, r) = sets-to 3 n (withSetting Turned n (u .core .settings)) (commandOf 70 n) next r refl refl
+  set-one n effects.move-current (next, r) = sets-to 4 n (withSetting MoveCurrent n (u .core .settings)) (commandOf 109 n) next r refl refl
+  set-one n effects.hold-current (next, r) = sets-to 5 n (withSetting HoldCurrent n (u .core .settings)) (commandOf 104 n) next r refl refl
+  set-one n effects.correction (next, r) = sets-to 7 n (withSetting Correction n (u .core .settings)) (commandOf 111 n) next r refl refl
+  set-one n effects.outputs (next, r) = sets-to 8 n (withSetting Outputs n (u .core .settings)) (commandOf 74 n) next r refl refl
+  set-one n effects.baud (next, r) = sets-to 9 n (withSetting Baud n (u .core .settings)) (commandOf 98 n) next r refl refl
 
-  set-step : (e : ℕ) → e ≤ 8 → Takes u sample ms steps image 106 (2 ^ e) → Sets u sample ms steps image 6 e
+  set-step : (e : ℕ) → e ≤ 8 → Takes t 106 (2 ^ e) → Sets t 6 e
   unfolding commandTaken acted commandOf find table
-  set-step e l (next, r) = sets-to 6 e (withExponent e (u .core .settings)) (commandOf 106 (2 ^ e)) next r (rw (exponent-complete e l)) refl
+  set-step e l (next, r) = sets-to 6 e (withSetting StepSize (2 ^ e) (u .core .settings)) (commandOf 106 (2 ^ e)) next r refl (rw (exponent-complete e l))
 
   -- the motor once the report is counted
   abbrev now : Motor
@@ -168,84 +232,89 @@ module _ (u : Drive) (sample ms steps : ℕ) (image : List ℕ) (run : u .core .
   abbrev known : Bool
   known = u .core .motor .known
 
-  placed : (n : ℕ) → Takes u sample ms steps image 122 n → Leads u sample ms steps image Wait.Nothing n true
+  placed : (n : ℕ) → Takes t 122 n → Leads t Wait.Nothing n true
   unfolding commandTaken acted commandOf find table reported
   placed n (next, r) = leads-to Wait.Nothing n true (placedAt n now) (commandOf 122 n) next r refl refl refl refl refl
 
-  no-delay : Takes u sample ms steps image 77 0 → Leads u sample ms steps image Wait.Nothing (here u sample ms steps image) known
+  no-delay : Takes t 77 0 → Leads t Wait.Nothing (here t) known
   unfolding commandTaken acted commandOf find table reported delayed
   no-delay (next, r) = leads-to Wait.Nothing _ known (delayed 0 now) (commandOf 77 0) next r refl refl refl refl refl
 
-  delay : (n : ℕ) → 0 < n → Takes u sample ms steps image 77 n → Leads u sample ms steps image (Wait.Delay n) (here u sample ms steps image) known
+  delay : (n : ℕ) → 0 < n → Takes t 77 n → Leads t (Wait.Delay n) (here t) known
   unfolding commandTaken acted commandOf find table reported delayed
   delay n l (next, r) = leads-to (Wait.Delay n) _ known (delayed n now) (commandOf 77 n) next r refl (rw (ne-eqb n 0 (λ z. omega arith))) refl refl refl
 
-  level-there : (digits : ℕ) → Takes u sample ms steps image 72 digits → levelThere digits sample ≡ true → Leads u sample ms steps image Wait.Nothing (here u sample ms steps image) known
+  level-there : (digits : ℕ) → Takes t 72 digits → levelThere digits sample ≡ true → Leads t Wait.Nothing (here t) known
   unfolding commandTaken acted commandOf find table reported held
   level-there digits (next, r) l = leads-to Wait.Nothing _ known (held digits now) (commandOf 72 digits) next r refl (rw l) refl refl refl
 
-  level-awaited : (digits : ℕ) → Takes u sample ms steps image 72 digits → levelThere digits sample ≡ false → Leads u sample ms steps image (Wait.Input digits) (here u sample ms steps image) known
+  level-awaited : (digits : ℕ) → Takes t 72 digits → levelThere digits sample ≡ false → Leads t (Wait.Input digits) (here t) known
   unfolding commandTaken acted commandOf find table reported held
   level-awaited digits (next, r) l = leads-to (Wait.Input digits) _ known (held digits now) (commandOf 72 digits) next r refl (rw l) refl refl refl
 
-  already-there : Takes u sample ms steps image 65 (here u sample ms steps image) → known ≡ true → Leads u sample ms steps image Wait.Nothing (here u sample ms steps image) true
+  already-there : Takes t 65 (here t) → known ≡ true → Leads t Wait.Nothing (here t) true
   unfolding commandTaken acted commandOf find table reported absolute
   already-there (next, r) k = leads-to Wait.Nothing _ true now (commandOf 65 (now .position)) next r (rw (k, eq-eqb (now .position) (now .position) refl)) (r .free) refl k refl
 
-  endless-up : Takes u sample ms steps image 80 0 → known ≡ true → Leads u sample ms steps image (Wait.Move true true (top - here u sample ms steps image)) (here u sample ms steps image) true
+  endless-up : Takes t 80 0 → known ≡ true → Leads t (Wait.Move true true (top - here t)) (here t) true
   unfolding commandTaken acted commandOf find table reported relative room
   endless-up (next, r) k = leads-to (Wait.Move true true (top - now .position)) _ true (waiting (Wait.Move true true (top - now .position)) now) (commandOf 80 0) next r (rw k) refl refl k refl
 
-  endless-down : Takes u sample ms steps image 68 0 → known ≡ true → Leads u sample ms steps image (Wait.Move false true (here u sample ms steps image)) (here u sample ms steps image) true
+  endless-down : Takes t 68 0 → known ≡ true → Leads t (Wait.Move false true (here t)) (here t) true
   unfolding commandTaken acted commandOf find table reported relative room
   endless-down (next, r) k = leads-to (Wait.Move false true (now .position)) _ true (waiting (Wait.Move false true (now .position)) now) (commandOf 68 0) next r (rw k) refl refl k refl
 
-  up : (n : ℕ) → 0 < n → n ≤ top - here u sample ms steps image → Takes u sample ms steps image 80 n → known ≡ true
-      → Leads u sample ms steps image (Wait.Move true false n) (here u sample ms steps image) true
+  up : (n : ℕ) → 0 < n → n ≤ top - here t → Takes t 80 n → known ≡ true
+      → Leads t (Wait.Move true false n) (here t) true
   unfolding commandTaken acted commandOf find table reported relative finite room
   up n l h (next, r) k = leads-to (Wait.Move true false n) _ true (waiting (Wait.Move true false n) now) (commandOf 80 n) next r (rw (k, ne-eqb n 0 (λ z. omega arith), le-leb n (top - now .position) h)) refl refl k refl
 
-  down : (n : ℕ) → 0 < n → n ≤ here u sample ms steps image → Takes u sample ms steps image 68 n → known ≡ true
-      → Leads u sample ms steps image (Wait.Move false false n) (here u sample ms steps image) true
+  down : (n : ℕ) → 0 < n → n ≤ here t → Takes t 68 n → known ≡ true
+      → Leads t (Wait.Move false false n) (here t) true
   unfolding commandTaken acted commandOf find table reported relative finite room
   down n l h (next, r) k = leads-to (Wait.Move false false n) _ true (waiting (Wait.Move false false n) now) (commandOf 68 n) next r (rw (k, ne-eqb n 0 (λ z. omega arith), le-leb n (now .position) h)) refl refl k refl
 
-  to-above : (n : ℕ) → here u sample ms steps image < n → n ≤ top → Takes u sample ms steps image 65 n → known ≡ true
-      → Leads u sample ms steps image (Wait.Move true false (n - here u sample ms steps image)) (here u sample ms steps image) true
+  to-above : (n : ℕ) → here t < n → n ≤ top → Takes t 65 n → known ≡ true
+      → Leads t (Wait.Move true false (n - here t)) (here t) true
   unfolding commandTaken acted commandOf find table reported absolute finite room
   to-above n l h (next, r) k =
       let p : ℕ = now .position in
       leads-to (Wait.Move true false (n - p)) _ true (waiting (Wait.Move true false (n - p)) now) (commandOf 65 n) next r
       (rw (k, ne-eqb n p (λ z. omega arith), le-ltb n p (omega arith), le-leb (n - p) (top - p) (omega arith))) refl refl k refl
 
-  to-below : (n : ℕ) → n < here u sample ms steps image → Takes u sample ms steps image 65 n → known ≡ true
-      → Leads u sample ms steps image (Wait.Move false false (here u sample ms steps image - n)) (here u sample ms steps image) true
+  to-below : (n : ℕ) → n < here t → Takes t 65 n → known ≡ true
+      → Leads t (Wait.Move false false (here t - n)) (here t) true
   unfolding commandTaken acted commandOf find table reported absolute finite room
   to-below n l (next, r) k =
       let p : ℕ = now .position in
       leads-to (Wait.Move false false (p - n)) _ true (waiting (Wait.Move false false (p - n)) now) (commandOf 65 n) next r
       (rw (k, ne-eqb n p (λ z. omega arith), lt-ltb n p l, le-leb (p - n) p (omega arith))) refl refl k refl
 
-  homes : (n : ℕ) → Takes u sample ms steps image 90 n → Homes u (then u sample ms steps image) sample (here u sample ms steps image)
-  unfolding commandTaken acted commandOf find table reported homed
+  -- a leg begun
+  leg-begun : (w : Wait) (next : ℕ) → homing w ≡ true → Homes u (moving (waiting w now) next) sample (here t)
+  unfolding reported
+  leg-begun w next h = record {
+    leg = h;
+    plainly = record {
+      goes = record { runs = run; text-same = refl; loaded-same = refl; code-same = refl; waits = refl; position = refl; known = refl; keeps-sample = refl };
+      settings-same = refl;
+    };
+  }
+
+  homes : (n : ℕ) → Takes t 90 n → Homes u (then t) sample (here t)
+  unfolding commandTaken acted commandOf find table homed
   homes n (next, r) =
-      let leg = cases (λ (w : Wait). homing w ≡ true) (cut (u .core .settings .flag) sample) (λ q. refl) (λ q. refl) in
-      subst (λ (v : Drive). Homes u v sample (here u sample ms steps image)) (sym (turned u run sample ms steps image m (commandOf 90 n) next r)) (record {
-        leg = leg;
-        plainly = record {
-          goes = record { runs = run; text-same = refl; loaded-same = refl; code-same = refl; waits = refl; position = refl; known = refl; keeps-sample = refl };
-          settings-same = refl;
-        };
-      })
+      subst (λ (v : Drive). Homes u v sample (here t)) (sym (turned u run sample ms steps image m (commandOf 90 n) next r))
+      (cases (λ (a : Motor). Homes u (moving a next) sample (here t)) (cut (u .core .settings .flag) (now .sample)) (λ q. leg-begun _ next refl) (λ q. leg-begun _ next refl))
 
   -- a command that leads through the text, whether the run goes on or not
   abbrev Kept : Core → Type 0
   Kept c = (c .settings ≡ u .core .settings) × (c .loaded ≡ u .core .loaded) × (c .motor .wait ≡ Wait.Nothing) × (c .motor .position ≡ now .position)
       × (c .motor .known ≡ known) × (c .motor .sample ≡ sample)
 
-  keeps-to : (d : Command) (next : ℕ) → Reads (textOf u) (u .core) (At d next) → Kept (made d next .core) → Keeps u (then u sample ms steps image) sample (here u sample ms steps image)
+  keeps-to : (d : Command) (next : ℕ) → Reads (textOf u) (u .core) (At d next) → Kept (made d next .core) → Keeps u (then t) sample (here t)
   keeps-to d next r k =
-      subst (λ (v : Drive). Keeps u v sample (here u sample ms steps image)) (sym (turned u run sample ms steps image m d next r))
+      subst (λ (v : Drive). Keeps u v sample (here t)) (sym (turned u run sample ms steps image m d next r))
       (record { settings-same = k .0; loaded-same = k .1; free = k .2; position = k .3; known-same = k .4; keeps-sample = k .5 })
 
   -- the run goes on somewhere in its text, or ends
@@ -276,14 +345,14 @@ module _ (u : Drive) (sample ms steps : ℕ) (image : List ℕ) (run : u .core .
       cases (λ (s : Stepped). Kept (s .core)) (slotGood image slot) (λ q. on-kept (begun (length (slotText image slot))) e)
       (λ q. off-kept 1 (u .core .flow) e)
 
-  flows : {l : ℕ} (n : ℕ) → Flowing l → Takes u sample ms steps image l n → Keeps u (then u sample ms steps image) sample (here u sample ms steps image)
+  flows : {l : ℕ} (n : ℕ) → Flowing l → Takes t l n → Keeps u (then t) sample (here t)
   unfolding commandTaken commandOf find table
   flows n effects.begins (next, r) = keeps-to (commandOf 103 n) next r (flow-kept (loopBegun next (u .core .flow)) (r .free))
   flows n effects.ends (next, r) = keeps-to (commandOf 71 n) next r (flow-kept (loopEnded n next (u .core .flow)) (r .free))
   flows n effects.skips (next, r) = keeps-to (commandOf 83 n) next r (skip-kept n next (r .free))
   flows n effects.enters (next, r) = keeps-to (commandOf 101 n) next r (jump-kept n (r .free))
 
-  pub commands : EachCommand u sample ms steps image
+  pub commands : EachCommand (aTurn u sample ms steps image)
   commands = record {
     set-one = set-one;
     set-step = set-step;
@@ -312,47 +381,47 @@ module _ (u : Drive) (sample ms steps : ℕ) (image : List ℕ) (run : u .core .
   abbrev waited : Moved → Drive
   waited r = turnTaken (settled (stays (moved r (withMotor now (u .core))))) image u .unit
 
-  at-turn : (w : Wait) → u .core .motor .wait ≡ w → isFree w ≡ false → then u sample ms steps image ≡ waited (served-by w)
+  at-turn : (w : Wait) → u .core .motor .wait ≡ w → isFree w ≡ false → then t ≡ waited (served-by w)
   unfolding turnCore
   at-turn w e f =
       turn-made u sample ms steps image m
       ∙ ap (λ (s : Stepped). turnTaken (settled s) image u .unit) (at-wait sample ms steps (textOf u) image (u .core) run w e f)
 
   goes-to : (w x : Wait) (p : ℕ) (k : Bool) (a : Motor) → u .core .motor .wait ≡ w → isFree w ≡ false → served-by w ≡ Goes a
-      → a .wait ≡ x → a .position ≡ p → a .known ≡ k → a .sample ≡ sample → Leads u sample ms steps image x p k
+      → a .wait ≡ x → a .position ≡ p → a .known ≡ k → a .sample ≡ sample → Leads t x p k
   goes-to w x p k a e f g q y z s =
       subst (λ (v : Drive). Plainly u v sample x p k) (sym (at-turn w e f ∙ ap waited g)) (record {
         goes = record { runs = run; text-same = refl; loaded-same = refl; code-same = refl; waits = q; position = y; known = z; keeps-sample = s };
         settings-same = refl;
       })
 
-  delay-on : (left : ℕ) → u .core .motor .wait ≡ Wait.Delay left → ms < left → Leads u sample ms steps image (Wait.Delay (left - ms)) (here u sample ms steps image) known
+  delay-on : (left : ℕ) → u .core .motor .wait ≡ Wait.Delay left → ms < left → Leads t (Wait.Delay (left - ms)) (here t) known
   unfolding served delayOn reported
   delay-on left e l = goes-to (Wait.Delay left) _ _ known (delayOn left ms now) e refl refl (rw (lt-leb left ms l)) refl refl refl
 
-  delay-over : (left : ℕ) → u .core .motor .wait ≡ Wait.Delay left → left ≤ ms → Leads u sample ms steps image Wait.Nothing (here u sample ms steps image) known
+  delay-over : (left : ℕ) → u .core .motor .wait ≡ Wait.Delay left → left ≤ ms → Leads t Wait.Nothing (here t) known
   unfolding served delayOn reported
   delay-over left e l = goes-to (Wait.Delay left) _ _ known (delayOn left ms now) e refl refl (rw (le-leb left ms l)) refl refl refl
 
   move-on : (goes-up : Bool) (left : ℕ) → u .core .motor .wait ≡ Wait.Move goes-up false left → steps < left
-      → Leads u sample ms steps image (Wait.Move goes-up false (left - steps)) (here u sample ms steps image) known
+      → Leads t (Wait.Move goes-up false (left - steps)) (here t) known
   unfolding served movedOn reported
   move-on goes-up left e l = goes-to (Wait.Move goes-up false left) _ _ known (movedOn goes-up left steps now) e refl refl (rw (lt-leb left steps l)) refl refl refl
 
   move-over : (goes-up : Bool) (left : ℕ) → u .core .motor .wait ≡ Wait.Move goes-up false left → left ≤ steps
-      → Leads u sample ms steps image Wait.Nothing (here u sample ms steps image) known
+      → Leads t Wait.Nothing (here t) known
   unfolding served movedOn reported
   move-over goes-up left e l = goes-to (Wait.Move goes-up false left) _ _ known (movedOn goes-up left steps now) e refl refl (rw (le-leb left steps l)) refl refl refl
 
-  level-comes : (digits : ℕ) → u .core .motor .wait ≡ Wait.Input digits → levelThere digits sample ≡ true → Leads u sample ms steps image Wait.Nothing (here u sample ms steps image) known
+  level-comes : (digits : ℕ) → u .core .motor .wait ≡ Wait.Input digits → levelThere digits sample ≡ true → Leads t Wait.Nothing (here t) known
   unfolding served held reported
   level-comes digits e l = goes-to (Wait.Input digits) _ _ known (held digits now) e refl refl (rw l) refl refl refl
 
-  level-stays : (digits : ℕ) → u .core .motor .wait ≡ Wait.Input digits → levelThere digits sample ≡ false → Leads u sample ms steps image (Wait.Input digits) (here u sample ms steps image) known
+  level-stays : (digits : ℕ) → u .core .motor .wait ≡ Wait.Input digits → levelThere digits sample ≡ false → Leads t (Wait.Input digits) (here t) known
   unfolding served held reported
   level-stays digits e l = goes-to (Wait.Input digits) _ _ known (held digits now) e refl refl (rw l) refl refl refl
 
-  edge : (up : Bool) (left : ℕ) → u .core .motor .wait ≡ Wait.Move up true left → falls (u .core .motor .sample) sample ≡ true → Leads u sample ms steps image Wait.Nothing (here u sample ms steps image) known
+  edge : (up : Bool) (left : ℕ) → u .core .motor .wait ≡ Wait.Move up true left → falls (u .core .motor .sample) sample ≡ true → Leads t Wait.Nothing (here t) known
   unfolding served endlessOn reported
   edge up left e l = goes-to (Wait.Move up true left) _ _ known (waiting Wait.Nothing now) e refl (rw l) refl refl refl refl
 
@@ -360,53 +429,62 @@ module _ (u : Drive) (sample ms steps : ℕ) (image : List ℕ) (run : u .core .
   abbrev Fails : Moved → Type 0
   Fails r = waited r .core .running ≡ false → waited r .core .motor .known ≡ false
 
-  leg-fails : (away : Bool) (left n : ℕ) → u .core .motor .wait ≡ Wait.Leg away left n → Fails (served-by (Wait.Leg away left n))
-  unfolding served legOn ended stopped reported
-  leg-fails away left n e =
-      cases Fails (awaited away (u .core .settings .flag) sample) (λ q z. clash run (ends away z))
+  away-fails : (left n : ℕ) → u .core .motor .wait ≡ Wait.LegAway left n → Fails (served-by (Wait.LegAway left n))
+  unfolding served awayOn ended stopped reported
+  away-fails left n e =
+      cases Fails (clear (u .core .settings .flag) sample) (λ q z. clash run z)
       (λ q. cases Fails (leb left steps) (λ l z. rw e refl) (λ l z. clash run z))
-    where
-      ends : (b : Bool) → waited (Goes (legEnded b n now)) .core .running ≡ false → u .core .running ≡ false
-      ends true z = z
-      ends false z = z
 
-  homing-fails : homing (u .core .motor .wait) ≡ true → then u sample ms steps image .core .running ≡ false → then u sample ms steps image .core .motor .known ≡ false
+  toward-fails : (left : ℕ) → u .core .motor .wait ≡ Wait.LegToward left → Fails (served-by (Wait.LegToward left))
+  unfolding served towardOn ended stopped reported
+  toward-fails left e =
+      cases Fails (cut (u .core .settings .flag) sample) (λ q z. clash run z)
+      (λ q. cases Fails (leb left steps) (λ l z. rw e refl) (λ l z. clash run z))
+
+  homing-fails : homing (u .core .motor .wait) ≡ true → then t .core .running ≡ false → then t .core .motor .known ≡ false
   homing-fails = go (u .core .motor .wait) refl
     where
-      go : (w : Wait) → u .core .motor .wait ≡ w → homing w ≡ true → then u sample ms steps image .core .running ≡ false → then u sample ms steps image .core .motor .known ≡ false
+      go : (w : Wait) → u .core .motor .wait ≡ w → homing w ≡ true → then t .core .running ≡ false → then t .core .motor .known ≡ false
       go Wait.Nothing e h = absurd (false≢true h)
       go (Wait.Move up endless left) e h = absurd (false≢true h)
-      go (Wait.Leg away left n) e h = subst (λ (v : Drive). v .core .running ≡ false → v .core .motor .known ≡ false) (sym (at-turn (Wait.Leg away left n) e refl)) (leg-fails away left n e)
+      go (Wait.LegAway left n) e h = subst (λ (v : Drive). v .core .running ≡ false → v .core .motor .known ≡ false) (sym (at-turn (Wait.LegAway left n) e refl)) (away-fails left n e)
+      go (Wait.LegToward left) e h = subst (λ (v : Drive). v .core .running ≡ false → v .core .motor .known ≡ false) (sym (at-turn (Wait.LegToward left) e refl)) (toward-fails left e)
       go (Wait.Delay left) e h = absurd (false≢true h)
       go (Wait.Input digits) e h = absurd (false≢true h)
 
   abbrev Finds : Drive → Type 0
   Finds v = v .core .running ≡ true → homing (v .core .motor .wait) ≡ false → Plainly u v sample Wait.Nothing 0 true
 
-  leg-finds : (away : Bool) (left n : ℕ) → Finds (waited (served-by (Wait.Leg away left n)))
-  unfolding served legOn ended reported
-  leg-finds away left n =
-      cases (λ (r : Moved). Finds (waited r)) (awaited away (u .core .settings .flag) sample) (λ q. found away)
+  away-finds : (left n : ℕ) → Finds (waited (served-by (Wait.LegAway left n)))
+  unfolding served awayOn ended reported
+  away-finds left n =
+      cases (λ (r : Moved). Finds (waited r)) (clear (u .core .settings .flag) sample) (λ q z y. absurd (false≢true (sym y)))
+      (λ q. cases (λ (r : Moved). Finds (waited r)) (leb left steps) (λ l z. absurd (false≢true z)) (λ l z y. absurd (false≢true (sym y))))
+
+  toward-finds : (left : ℕ) → Finds (waited (served-by (Wait.LegToward left)))
+  unfolding served towardOn ended reported
+  toward-finds left =
+      cases (λ (r : Moved). Finds (waited r)) (cut (u .core .settings .flag) sample) (λ q z y. found)
       (λ q. cases (λ (r : Moved). Finds (waited r)) (leb left steps) (λ l z. absurd (false≢true z)) (λ l z y. absurd (false≢true (sym y))))
     where
-      found : (b : Bool) → Finds (waited (Goes (legEnded b n now)))
-      found true z y = absurd (false≢true (sym y))
-      found false z y = record {
+      found : Plainly u (waited (Goes (placedAt 0 now))) sample Wait.Nothing 0 true
+      found = record {
         goes = record { runs = run; text-same = refl; loaded-same = refl; code-same = refl; waits = refl; position = refl; known = refl; keeps-sample = refl };
         settings-same = refl;
       }
 
-  homing-finds : homing (u .core .motor .wait) ≡ true → Finds (then u sample ms steps image)
+  homing-finds : homing (u .core .motor .wait) ≡ true → Finds (then t)
   homing-finds = go (u .core .motor .wait) refl
     where
-      go : (w : Wait) → u .core .motor .wait ≡ w → homing w ≡ true → Finds (then u sample ms steps image)
+      go : (w : Wait) → u .core .motor .wait ≡ w → homing w ≡ true → Finds (then t)
       go Wait.Nothing e h = absurd (false≢true h)
       go (Wait.Move up endless left) e h = absurd (false≢true h)
-      go (Wait.Leg away left n) e h = subst Finds (sym (at-turn (Wait.Leg away left n) e refl)) (leg-finds away left n)
+      go (Wait.LegAway left n) e h = subst Finds (sym (at-turn (Wait.LegAway left n) e refl)) (away-finds left n)
+      go (Wait.LegToward left) e h = subst Finds (sym (at-turn (Wait.LegToward left) e refl)) (toward-finds left)
       go (Wait.Delay left) e h = absurd (false≢true h)
       go (Wait.Input digits) e h = absurd (false≢true h)
 
-  pub waits : EachWait u sample ms steps image
+  pub waits : EachWait (aTurn u sample ms steps image)
   waits = record {
     delay-on = delay-on;
     delay-over = delay-over;
@@ -440,6 +518,26 @@ module _ (f : ℕ) (l : Last) where
   turned-so true h e q = rw (ne-eqb (l .number) 0 (λ z. omega arith), e, q)
   turned-so false h e q = rw (ne-eqb (l .number) 0 (λ z. omega arith), e, q)
 
+module _ (a : Motor) (e : a .last ≡ actionOf (a .wait)) where
+  move-so : (up endless : Bool) (left : ℕ) → a .wait ≡ Wait.Move up endless left → a .last ≡ last up left true
+  move-so up endless left h = e ∙ rw h
+
+  leg-so : homing (a .wait) ≡ true → a .last .counts ≡ false
+  leg-so h = ap (λ (l : Last). l .counts) e ∙ go (a .wait) h
+    where
+      go : (w : Wait) → homing w ≡ true → actionOf w .counts ≡ false
+      go Wait.Nothing q = refl
+      go (Wait.Move up endless left) q = absurd (false≢true q)
+      go (Wait.LegAway left n) q = refl
+      go (Wait.LegToward left) q = refl
+      go (Wait.Delay left) q = refl
+      go (Wait.Input digits) q = refl
+
+  rests-so : (w : Wait) → Resting w → a .wait ≡ w → a .last .number ≡ 0
+  rests-so w effects.nothing h = ap (λ (l : Last). l .number) (e ∙ ap actionOf h)
+  rests-so w (effects.delay left) h = ap (λ (l : Last). l .number) (e ∙ ap actionOf h)
+  rests-so w (effects.input digits) h = ap (λ (l : Last). l .number) (e ∙ ap actionOf h)
+
 turn-whole : (u : Drive) (sample ms steps : ℕ) (image : List ℕ) → Made u sample steps image
     → turnOf u sample ms steps image ≡ turnTaken (turnCore sample ms steps (u .text) image (u .core)) image u
 unfolding turnOf
@@ -450,4 +548,13 @@ answers u sample ms steps image m =
     let c = turnCore sample ms steps (u .text) image (u .core) .core in
     let f = c .settings .turned in
     let l = c .motor .last in
-    subst Answers (sym (turn-whole u sample ms steps image m)) (record { number = number-so f l; none = none-so f l; straight = straight-so f l; turned = turned-so f l })
+    let e = turn-last sample ms steps (u .text) image (u .core) in
+    subst Answers (sym (turn-whole u sample ms steps image m)) (record {
+      number = number-so f l;
+      none = none-so f l;
+      straight = straight-so f l;
+      turned = turned-so f l;
+      move = move-so (c .motor) e;
+      leg = leg-so (c .motor) e;
+      rests = rests-so (c .motor) e;
+    })

@@ -9,7 +9,7 @@ use Rattle.digits.specs.Decimal.{decimal}
 use Rattle.lines.specs.Examples.{bytes}
 use Rattle.image.specs.Image.{rightLength, emptyImage}
 use Rattle.motor.specs.declared.Wait.{Wait}
-use Rattle.motor.specs.declared.Wait.the-variants.{Nothing, Move, Leg, Delay, Input}
+use Rattle.motor.specs.declared.Wait.the-variants.{Nothing, Move, LegAway, LegToward, Delay, Input}
 use Rattle.turns.specs.declared.Core.{Core}
 use Rattle.obeying.specs.Obeying.{bodyObeyed, dataOf, textWritten, imageWritten}
 
@@ -42,7 +42,8 @@ Asks b c text image told = Makes b c c text image told
 abbrev pub homing : Wait → Bool
 homing Nothing = false
 homing (Move up endless left) = false
-homing (Leg away left n) = true
+homing (LegAway left n) = true
+homing (LegToward left) = true
 homing (Delay left) = false
 homing (Input digits) = false
 

@@ -7,13 +7,16 @@ use mathlib.Core.Bool.{true, false}
 use Rattle.motor.specs.declared.Wait.{Wait}
 use Rattle.turns.specs.declared.Core.{Core}
 use Rattle.drive.specs.Unit.{Drive}
-use Rattle.drive.specs.Calls.{turnOf}
+use Rattle.drive.specs.declared.StartAnswer.{StartAnswer}
+use Rattle.drive.specs.Calls.{startOf, turnOf}
 use Rattle.runs.specs.Reach.{Feed, Turn, after}
 use Rattle.runs.specs.Causes.{Made}
 use Rattle.effects.specs.Bodies.{EachBody}
-use Rattle.effects.specs.Turns.{SameRun, EachCommand, EachWait, Answers}
+use Rattle.effects.specs.Turns.{Defaults, SameRun, Idles, aTurn, here, EachCommand, EachWait, Answers}
 
 pub record EffectClaims : Type 0 where
+  pub defaults : (number : ℕ) (image body text : List ℕ) → startOf number image body text .answer ≡ StartAnswer.Started
+      → Defaults (startOf number image body text .unit)
   pub bodies : (c : Core) (text image : List ℕ) → EachBody c text image
   -- "They are obeyed while running": no feed call moves a run
   pub feeds : (u : Drive) (bytes image buffer : List ℕ) → u .core .running ≡ true → SameRun u (after (Feed bytes image buffer) u)
@@ -21,9 +24,11 @@ pub record EffectClaims : Type 0 where
   pub serves : (u : Drive) (sample ms steps : ℕ) (image : List ℕ) → (u .core .motor .wait ≡ Wait.Nothing → ⊥)
       → SameRun u (after (Turn sample ms steps image) u)
   pub idles : (u : Drive) (sample ms steps : ℕ) (image : List ℕ) → u .core .running ≡ false → SameRun u (after (Turn sample ms steps image) u)
+  pub idle : (u : Drive) (sample ms steps : ℕ) (image : List ℕ) → u .core .running ≡ false → Made u sample steps image
+      → Idles u (after (Turn sample ms steps image) u) sample (here (aTurn u sample ms steps image))
   pub waits : (u : Drive) (sample ms steps : ℕ) (image : List ℕ) → u .core .running ≡ true → Made u sample steps image
-      → EachWait u sample ms steps image
+      → EachWait (aTurn u sample ms steps image)
   pub commands : (u : Drive) (sample ms steps : ℕ) (image : List ℕ) → u .core .running ≡ true → Made u sample steps image
-      → EachCommand u sample ms steps image
+      → EachCommand (aTurn u sample ms steps image)
   pub answers : (u : Drive) (sample ms steps : ℕ) (image : List ℕ) → Made u sample steps image
       → Answers (turnOf u sample ms steps image)

@@ -9,7 +9,8 @@ use Rattle.commands.specs.declared.Read.the-variants.{At}
 use Rattle.commands.specs.Table.{top, commandOf}
 use Rattle.motor.specs.declared.Wait.{Wait}
 use Rattle.motor.specs.Inputs.{levelThere, falls}
-use Rattle.turns.specs.declared.Settings.{Settings}
+use Rattle.motor.specs.Motion.{last}
+use Rattle.turns.specs.declared.setting.Settings.{Settings}
 use Rattle.turns.specs.declared.Direction.{Direction}
 use Rattle.turns.specs.Ends.{Reads, positionThen}
 use Rattle.drive.specs.Unit.{Drive}
@@ -53,6 +54,19 @@ listed s =
     ∷ s .baud
     ∷ []
 
+-- "Defaults: V 305175, L 1000, j 256, o 1500, m 25, h 10, last sample 15, all else 0, baud 9600": of a unit that was started; 256 is 2 to the 8
+pub record Defaults (u : Drive) : Type 0 where
+  pub settings : listed (u .core .settings) ≡ 305175 ∷ 1000 ∷ 0 ∷ 0 ∷ 25 ∷ 10 ∷ 8 ∷ 1500 ∷ 0 ∷ 9600 ∷ []
+  pub sample : u .core .motor .sample ≡ 15
+  pub position : u .core .motor .position ≡ 0
+  pub known : u .core .motor .known ≡ true
+  pub free : u .core .motor .wait ≡ Wait.Nothing
+  pub no-action : u .core .motor .last .number ≡ 0
+  pub not-loaded : u .core .loaded ≡ false
+  pub code : u .core .code ≡ 0
+  pub first : u .core .flow .at ≡ 0
+  pub none-open : u .core .flow .depth ≡ 0
+
 -- ---- one turn: u becomes v, with this sample
 
 -- the run goes on in its text: what is waited for next, where the position is and whether it is known
@@ -90,6 +104,12 @@ pub record Keeps (u v : Drive) (sample p : ℕ) : Type 0 where
   pub known-same : v .core .motor .known ≡ u .core .motor .known
   pub keeps-sample : v .core .motor .sample ≡ sample
 
+-- a turn of an idle unit: its report is counted and its sample kept
+pub record Idles (u v : Drive) (sample p : ℕ) : Type 0 where
+  pub keeps : Keeps u v sample p
+  pub stays-idle : v .core .running ≡ false
+  pub code-same : v .core .code ≡ u .core .code
+
 -- the letters of the commands that lead through the text: `g G S e`
 pub data Flowing : ℕ → Type 0 where
   begins : Flowing 103
@@ -97,75 +117,103 @@ pub data Flowing : ℕ → Type 0 where
   skips : Flowing 83
   enters : Flowing 101
 
-module _ (u : Drive) (sample ms steps : ℕ) (image : List ℕ) where
-  abbrev pub then : Drive
-  then = after (Turn sample ms steps image) u
+-- a turn of a unit, and what is handed over
+pub record ATurn : Type 0 where
+  pub unit : Drive
+  pub sample : ℕ
+  pub ms : ℕ
+  pub steps : ℕ
+  pub image : List ℕ
 
-  -- the command of the letter l with the number n stands at the place, and nothing is waited for
-  abbrev pub Takes : ℕ → ℕ → Type 0
-  Takes l n = (next : ℕ) × Reads (textOf u) (u .core) (At (commandOf l n) next)
+abbrev pub aTurn : Drive → ℕ → ℕ → ℕ → List ℕ → ATurn
+aTurn u sample ms steps image = record { unit = u; sample = sample; ms = ms; steps = steps; image = image }
 
-  -- where the position stands once the report is counted
-  abbrev pub here : ℕ
-  here = positionThen sample steps (u .core)
+abbrev pub then : ATurn → Drive
+then t = after (Turn (t .sample) (t .ms) (t .steps) (t .image)) (t .unit)
 
-  abbrev pub Leads : Wait → ℕ → Bool → Type 0
-  Leads w p k = Plainly u then sample w p k
+-- the command of the letter l with the number n stands at the place, and nothing is waited for
+abbrev pub Takes : ATurn → ℕ → ℕ → Type 0
+Takes t l n = (next : ℕ) × Reads (textOf (t .unit)) (t .unit .core) (At (commandOf l n) next)
 
-  abbrev pub Sets : ℕ → ℕ → Type 0
-  Sets i n = SetsOne u then sample here i n
+-- where the position stands once the report is counted
+abbrev pub here : ATurn → ℕ
+here t = positionThen (t .sample) (t .steps) (t .unit .core)
 
-  pub record EachCommand : Type 0 where
-    -- "`V` 1 to 16777216" and the other settings
-    pub set-one : {l i : ℕ} (n : ℕ) → Letter l i → Takes l n → Sets i n
-    -- "The record keeps the exponent of `j`, 0 to 8"
-    pub set-step : (e : ℕ) → e ≤ 8 → Takes 106 (2 ^ e) → Sets 6 e
-    -- `z`: the position is that, and known
-    pub placed : (n : ℕ) → Takes 122 n → Leads Wait.Nothing n true
-    -- "`M0` ends at once"
-    pub no-delay : Takes 77 0 → Leads Wait.Nothing here (u .core .motor .known)
-    pub delay : (n : ℕ) → 0 < n → Takes 77 n → Leads (Wait.Delay n) here (u .core .motor .known)
-    -- "`H` tests each turn's sample, the first included"
-    pub level-there : (digits : ℕ) → Takes 72 digits → levelThere digits sample ≡ true → Leads Wait.Nothing here (u .core .motor .known)
-    pub level-awaited : (digits : ℕ) → Takes 72 digits → levelThere digits sample ≡ false
-        → Leads (Wait.Input digits) here (u .core .motor .known)
-    -- "`A` to the present position ends at once"
-    pub already-there : Takes 65 here → u .core .motor .known ≡ true → Leads Wait.Nothing here true
-    -- a finite move within the range
-    pub up : (n : ℕ) → 0 < n → n ≤ top - here → Takes 80 n → u .core .motor .known ≡ true → Leads (Wait.Move true false n) here true
-    pub down : (n : ℕ) → 0 < n → n ≤ here → Takes 68 n → u .core .motor .known ≡ true → Leads (Wait.Move false false n) here true
-    pub to-above : (n : ℕ) → here < n → n ≤ top → Takes 65 n → u .core .motor .known ≡ true → Leads (Wait.Move true false (n - here)) here true
-    pub to-below : (n : ℕ) → n < here → Takes 65 n → u .core .motor .known ≡ true → Leads (Wait.Move false false (here - n)) here true
-    -- "`P0`, `D0` are endless: greatest number is the distance to the end of the range"
-    pub endless-up : Takes 80 0 → u .core .motor .known ≡ true → Leads (Wait.Move true true (top - here)) here true
-    pub endless-down : Takes 68 0 → u .core .motor .known ≡ true → Leads (Wait.Move false true here) here true
-    -- `Z`: a homing leg is waited for
-    pub homes : (n : ℕ) → Takes 90 n → Homes u then sample here
-    -- `g`, `G`, `S` and `e`: where they lead is said of whole runs, and they touch no setting and not the position
-    pub flows : {l : ℕ} (n : ℕ) → Flowing l → Takes l n → Keeps u then sample here
+-- what is waited for before the turn, and whether the position is known
+abbrev pub waitOf : ATurn → Wait
+waitOf t = t .unit .core .motor .wait
 
-  -- a wait served
-  pub record EachWait : Type 0 where
-    -- "`M` counts down elapsed time from the turn after its own"
-    pub delay-on : (left : ℕ) → u .core .motor .wait ≡ Wait.Delay left → ms < left → Leads (Wait.Delay (left - ms)) here (u .core .motor .known)
-    pub delay-over : (left : ℕ) → u .core .motor .wait ≡ Wait.Delay left → left ≤ ms → Leads Wait.Nothing here (u .core .motor .known)
-    -- a finite move: what is left of it once the report is counted
-    pub move-on : (goes-up : Bool) (left : ℕ) → u .core .motor .wait ≡ Wait.Move goes-up false left → steps < left
-        → Leads (Wait.Move goes-up false (left - steps)) here (u .core .motor .known)
-    pub move-over : (goes-up : Bool) (left : ℕ) → u .core .motor .wait ≡ Wait.Move goes-up false left → left ≤ steps
-        → Leads Wait.Nothing here (u .core .motor .known)
-    -- "`H` tests each turn's sample"
-    pub level-comes : (digits : ℕ) → u .core .motor .wait ≡ Wait.Input digits → levelThere digits sample ≡ true
-        → Leads Wait.Nothing here (u .core .motor .known)
-    pub level-stays : (digits : ℕ) → u .core .motor .wait ≡ Wait.Input digits → levelThere digits sample ≡ false
-        → Leads (Wait.Input digits) here (u .core .motor .known)
-    -- an endless move ends "when input 2 falls between two samples"
-    pub edge : (up : Bool) (left : ℕ) → u .core .motor .wait ≡ Wait.Move up true left → falls (u .core .motor .sample) sample ≡ true
-        → Leads Wait.Nothing here (u .core .motor .known)
-    -- "A failed homing .. makes the position unknown until `z` or a homing that finds", "then position is 0"
-    pub homing-fails : homing (u .core .motor .wait) ≡ true → then .core .running ≡ false → then .core .motor .known ≡ false
-    pub homing-finds : homing (u .core .motor .wait) ≡ true → then .core .running ≡ true → homing (then .core .motor .wait) ≡ false
-        → Leads Wait.Nothing 0 true
+abbrev pub knownIn : ATurn → Bool
+knownIn t = t .unit .core .motor .known
+
+abbrev pub Leads : ATurn → Wait → ℕ → Bool → Type 0
+Leads t w p k = Plainly (t .unit) (then t) (t .sample) w p k
+
+abbrev pub Sets : ATurn → ℕ → ℕ → Type 0
+Sets t i n = SetsOne (t .unit) (then t) (t .sample) (here t) i n
+
+-- only what is waited for changes
+abbrev pub Waits : ATurn → Wait → Type 0
+Waits t w = Leads t w (here t) (knownIn t)
+
+-- each command that is taken, by its letter
+pub record EachCommand (t : ATurn) : Type 0 where
+  -- "`V` 1 to 16777216" and the other settings
+  pub set-one : {l i : ℕ} (n : ℕ) → Letter l i → Takes t l n → Sets t i n
+  -- "The record keeps the exponent of `j`, 0 to 8"
+  pub set-step : (e : ℕ) → e ≤ 8 → Takes t 106 (2 ^ e) → Sets t 6 e
+  -- `z`: the position is that, and known
+  pub placed : (n : ℕ) → Takes t 122 n → Leads t Wait.Nothing n true
+  -- "`M0` ends at once"
+  pub no-delay : Takes t 77 0 → Waits t Wait.Nothing
+  pub delay : (n : ℕ) → 0 < n → Takes t 77 n → Waits t (Wait.Delay n)
+  -- "`H` tests each turn's sample, the first included"
+  pub level-there : (digits : ℕ) → Takes t 72 digits → levelThere digits (t .sample) ≡ true → Waits t Wait.Nothing
+  pub level-awaited : (digits : ℕ) → Takes t 72 digits → levelThere digits (t .sample) ≡ false
+      → Waits t (Wait.Input digits)
+  -- "`A` to the present position ends at once"
+  pub already-there : Takes t 65 (here t) → knownIn t ≡ true → Leads t Wait.Nothing (here t) true
+  -- a finite move within the range
+  pub up : (n : ℕ) → 0 < n → n ≤ top - here t → Takes t 80 n → knownIn t ≡ true → Leads t (Wait.Move true false n) (here t) true
+  pub down : (n : ℕ) → 0 < n → n ≤ here t → Takes t 68 n → knownIn t ≡ true → Leads t (Wait.Move false false n) (here t) true
+  pub to-above : (n : ℕ) → here t < n → n ≤ top → Takes t 65 n → knownIn t ≡ true → Leads t (Wait.Move true false (n - here t)) (here t) true
+  pub to-below : (n : ℕ) → n < here t → Takes t 65 n → knownIn t ≡ true → Leads t (Wait.Move false false (here t - n)) (here t) true
+  -- "`P0`, `D0` are endless: greatest number is the distance to the end of the range"
+  pub endless-up : Takes t 80 0 → knownIn t ≡ true → Leads t (Wait.Move true true (top - here t)) (here t) true
+  pub endless-down : Takes t 68 0 → knownIn t ≡ true → Leads t (Wait.Move false true (here t)) (here t) true
+  -- `Z`: a homing leg is waited for
+  pub homes : (n : ℕ) → Takes t 90 n → Homes (t .unit) (then t) (t .sample) (here t)
+  -- `g`, `G`, `S` and `e`: where they lead is said of whole runs, and they touch no setting and not the position
+  pub flows : {l : ℕ} (n : ℕ) → Flowing l → Takes t l n → Keeps (t .unit) (then t) (t .sample) (here t)
+
+-- each wait that is served
+pub record EachWait (t : ATurn) : Type 0 where
+  -- "`M` counts down elapsed time from the turn after its own"
+  pub delay-on : (left : ℕ) → waitOf t ≡ Wait.Delay left → t .ms < left → Waits t (Wait.Delay (left - t .ms))
+  pub delay-over : (left : ℕ) → waitOf t ≡ Wait.Delay left → left ≤ t .ms → Waits t Wait.Nothing
+  -- a finite move: what is left of it once the report is counted
+  pub move-on : (goes-up : Bool) (left : ℕ) → waitOf t ≡ Wait.Move goes-up false left → t .steps < left
+      → Waits t (Wait.Move goes-up false (left - t .steps))
+  pub move-over : (goes-up : Bool) (left : ℕ) → waitOf t ≡ Wait.Move goes-up false left → left ≤ t .steps
+      → Waits t Wait.Nothing
+  -- "`H` tests each turn's sample"
+  pub level-comes : (digits : ℕ) → waitOf t ≡ Wait.Input digits → levelThere digits (t .sample) ≡ true
+      → Waits t Wait.Nothing
+  pub level-stays : (digits : ℕ) → waitOf t ≡ Wait.Input digits → levelThere digits (t .sample) ≡ false
+      → Waits t (Wait.Input digits)
+  -- an endless move ends "when input 2 falls between two samples"
+  pub edge : (up : Bool) (left : ℕ) → waitOf t ≡ Wait.Move up true left → falls (t .unit .core .motor .sample) (t .sample) ≡ true
+      → Waits t Wait.Nothing
+  -- "A failed homing .. makes the position unknown until `z` or a homing that finds", "then position is 0"
+  pub homing-fails : homing (waitOf t) ≡ true → then t .core .running ≡ false → then t .core .motor .known ≡ false
+  pub homing-finds : homing (waitOf t) ≡ true → then t .core .running ≡ true → homing (then t .core .motor .wait) ≡ false
+      → Leads t Wait.Nothing 0 true
+
+-- no action is asked for
+pub data Resting : Wait → Type 0 where
+  nothing : Resting Wait.Nothing
+  delay : (left : ℕ) → Resting (Wait.Delay left)
+  input : (digits : ℕ) → Resting (Wait.Input digits)
 
 -- ---- the action: "direction and greatest number of microsteps. A number of 0 has no direction."; "`F1` turns the direction of every action"
 pub record Answers (r : Turning) : Type 0 where
@@ -175,3 +223,7 @@ pub record Answers (r : Turning) : Type 0 where
       → r .action .direction ≡ cond up Direction.Up Direction.Down
   pub turned : (up : Bool) → 0 < r .unit .core .motor .last .number → r .unit .core .settings .turned ≡ 1 → r .unit .core .motor .last .up ≡ up
       → r .action .direction ≡ cond up Direction.Down Direction.Up
+  -- what is waited for is what is answered; "homing steps do not count in the position"
+  pub move : (up endless : Bool) (left : ℕ) → r .unit .core .motor .wait ≡ Wait.Move up endless left → r .unit .core .motor .last ≡ last up left true
+  pub leg : homing (r .unit .core .motor .wait) ≡ true → r .unit .core .motor .last .counts ≡ false
+  pub rests : (w : Wait) → Resting w → r .unit .core .motor .wait ≡ w → r .unit .core .motor .last .number ≡ 0

@@ -9,7 +9,7 @@ use Rattle.parts.specs.Parts.{part}
 use Rattle.commands.specs.declared.Command.{Command}
 use Rattle.commands.specs.declared.Command.the-variants.{LoopBegin, LoopEnd, Skip, Jump, Plain}
 use Rattle.commands.specs.declared.Act.{Act}
-use Rattle.commands.specs.declared.Act.the-variants.{MoveTo, MoveUp, MoveDown, SetPosition, Home, TopSpeed, Acceleration, FlagLevel, Turned, MoveCurrent, HoldCurrent, StepSize, Correction, Outputs, Baud, Delay, WaitInput}
+use Rattle.commands.specs.declared.Act.the-variants.{MoveTo, MoveUp, MoveDown, SetPosition, Home, Set, Delay, WaitInput}
 use Rattle.commands.specs.Reading.{fault}
 use Rattle.lines.specs.declared.Body.{Body}
 use Rattle.lines.specs.declared.Taken.{Taken}
@@ -30,16 +30,7 @@ barredAct (MoveUp n) = eqb n 0
 barredAct (MoveDown n) = eqb n 0
 barredAct (SetPosition n) = false
 barredAct (Home n) = false
-barredAct (TopSpeed n) = false
-barredAct (Acceleration n) = false
-barredAct (FlagLevel n) = false
-barredAct (Turned n) = false
-barredAct (MoveCurrent n) = false
-barredAct (HoldCurrent n) = false
-barredAct (StepSize n) = false
-barredAct (Correction n) = false
-barredAct (Outputs n) = false
-barredAct (Baud n) = false
+barredAct (Set s n) = false
 barredAct (Delay n) = false
 barredAct (WaitInput n) = true
 

@@ -2,6 +2,7 @@
 use Prim.Native.Nat.{ℕ, _≤_}
 use mathlib.Core.Path.{_≡_}
 use mathlib.Core.Bool.{Bool, true, false, false≢true}
+use native.Mathlib.Omega.{arith}
 use Rattle.lines.proofs.LoopLaws.{lawful}
 use Rattle.flow.proofs.FlowLaws.{depth-most, exactly, no-fault, begin-goes, end-goes}
 use Rattle.motor.specs.Motion.{room, counted, reported}
@@ -10,13 +11,14 @@ use Rattle.motor.proofs.RoomLaws.{counted-up, counted-down}
 use Rattle.turns.specs.Ends.{Strays, badRead, tooDeep, noneOpen, skipsBad, skipsEnd}
 use Rattle.drive.specs.Unit.{Drive}
 use Rattle.runs.specs.Reach.{textOf}
-use Rattle.runs.specs.Claims.{movedBy, NeverAstray}
+use Rattle.runs.specs.Claims.{Counted, NeverAstray}
 use Rattle.runs.proofs.SoundLaws.{SoundUnit}
 
 -- what is counted is counted whole where there is room for it
-counted-whole : (up : Bool) (p steps : ℕ) → steps ≤ room up p → counted up p steps ≡ movedBy up p steps
+counted-whole : (up : Bool) (p steps : ℕ) → steps ≤ room up p → Counted up p steps (counted up p steps)
+unfolding room
 counted-whole true p steps h = counted-up p steps h
-counted-whole false p steps h = counted-down p steps h
+counted-whole false p steps h = omega (arith, counted-down p steps h)
 
 module _ (u : Drive) (h : SoundUnit u) where
   -- a checked text comes to none of it
@@ -35,8 +37,8 @@ module _ (u : Drive) (h : SoundUnit u) where
     exactly = exactly (h .flow);
     at-most-four = depth-most (h .flow);
     in-range = h .motor .inRange;
-    down-whole = λ steps c d l. rw d at (nothing-cut (h .motor) c l);
     counted-whole = λ sample steps c l. rw c (counted-whole (u .core .motor .last .up) (u .core .motor .position) steps (nothing-cut (h .motor) c l));
+    not-counted = λ sample steps c. rw c;
     code-0 = h .code-0;
     not-astray = not-astray;
   }

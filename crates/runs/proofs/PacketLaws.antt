@@ -25,7 +25,7 @@ use Rattle.obeying.specs.declared.Tell.{Tell}
 use Rattle.obeying.specs.Obeying.{stepSize, dataOf, loadedAs, textWritten}
 use Rattle.frames.specs.Receive.{bodyIn}
 use Rattle.drive.specs.Calls.{answerTo, receivedBy, obeyedBy, textThen, feedOf}
-use Rattle.runs.specs.Packets.{Answers, toldBy, ReadBack}
+use Rattle.runs.specs.Packets.{Answers, answeredBy, toldBy, ReadBack}
 use Rattle.runs.proofs.SoundLaws.{Sound, SoundUnit}
 use Rattle.runs.proofs.CallLaws.{feed-done}
 use Rattle.runs.proofs.PrintLaws.{checked-printable}
@@ -118,6 +118,14 @@ module _ (u : Drive) (bytes image buffer : List ℕ) (a : Answers u bytes image 
 
   core-then : feedOf u bytes image buffer .unit .core ≡ obeyedBy u bytes .core
   core-then = feed-done u bytes image buffer (record { buffer-right = a .buffer-right; image-right = a .image-right; frame-ours = rw (a .frame-alone) })
+
+  -- the bytes that the call answers are the packet
+  pub answer-is : SoundUnit u → FitUnit u → answeredBy u bytes image buffer ≡ answerTo (obeyedBy u bytes) left
+  answer-is s h =
+      let o : Obeyed = obeyedBy u bytes in
+      let r = receivedBy u bytes in
+      let t : Tellable o left = obeys-told (u .core) (u .text) s h (frame-does (r .frame) (bodyIn (r .receiver)) (u .core)) in
+      rw (answered-long, buffer-then, front-written buffer (answerTo o left) (omega (arith, a .buffer-right, answer-most o left t)))
 
   pub read-back : SoundUnit u → FitUnit u → ReadBack u bytes image buffer
   read-back s h =

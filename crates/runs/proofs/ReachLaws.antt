@@ -15,8 +15,8 @@ module _ {P : List ℕ → Core → Type 0} (k : CallsKeep P) where
   call-keeps u (Feed bytes image buffer) h = k .feeds u bytes image buffer h
   call-keeps u (Turn sample ms steps image) h = k .turns u sample ms steps image h
 
-  reached-keeps : {u : Drive} → Reached u → Holds P u
-  reached-keeps (fresh number image body text e) = rw (started-unit number image body text e) (k .starts number image body)
+  pub reached-keeps : {u : Drive} → Reached u → Holds P u
+  reached-keeps (fresh number image body text l e) = rw (started-unit number image body text e) (k .starts number image body)
   reached-keeps (called {u} c r) = call-keeps u c (reached-keeps r)
 
 pub reached-sound : {u : Drive} → Reached u → SoundUnit u

@@ -9,12 +9,12 @@ use Rattle.commands.specs.declared.Read.the-variants.{At, Bad, End}
 use Rattle.commands.specs.Reading.{readAt}
 use Rattle.motor.specs.declared.Moved.{Moved}
 use Rattle.motor.specs.declared.Moved.the-variants.{Goes, Stops}
-use Rattle.motor.specs.Motion.{reported, served}
+use Rattle.motor.specs.Motion.{reported, served, isFree}
 use Rattle.frames.specs.Receive.{bodyIn}
 use Rattle.turns.specs.declared.Core.{Core}
 use Rattle.turns.specs.declared.Enter.the-variants.{Stay}
 use Rattle.turns.specs.declared.Stepped.{Stepped}
-use Rattle.turns.specs.Turns.{withMotor, ended, astray, moved, readTaken, isFree, running, stepOf, turnCore, textAfter}
+use Rattle.turns.specs.Turns.{withMotor, ended, astray, moved, readTaken, running, stepOf, turnCore, textAfter}
 use Rattle.turns.specs.Ends.{Reads}
 use Rattle.turns.proofs.TurnLaws.{at-command, at-wait}
 use Rattle.drive.specs.Unit.{Drive}

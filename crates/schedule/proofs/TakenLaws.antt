@@ -8,7 +8,7 @@ use lib.ListN.{length}
 use Rattle.commands.specs.declared.Command.{Command}
 use Rattle.commands.specs.declared.Command.the-variants.{LoopBegin, LoopEnd, Skip, Jump, Plain}
 use Rattle.commands.specs.declared.Act.{Act}
-use Rattle.commands.specs.declared.Act.the-variants.{MoveTo, MoveUp, MoveDown, SetPosition, Home, TopSpeed, Acceleration, FlagLevel, Turned, MoveCurrent, HoldCurrent, StepSize, Correction, Outputs, Baud, Delay, WaitInput}
+use Rattle.commands.specs.declared.Act.the-variants.{MoveTo, MoveUp, MoveDown, SetPosition, Home, Set, Delay, WaitInput}
 use Rattle.commands.specs.declared.Read.{Read}
 use Rattle.commands.specs.declared.Read.the-variants.{At, Bad, End}
 use Rattle.commands.specs.Reading.{readAt}
@@ -38,16 +38,7 @@ acted-flow (MoveUp n) c = moved-flow (ifKnown (c .motor) (relative true n (c .mo
 acted-flow (MoveDown n) c = moved-flow (ifKnown (c .motor) (relative false n (c .motor))) c
 acted-flow (SetPosition n) c = refl
 acted-flow (Home n) c = refl
-acted-flow (TopSpeed n) c = refl
-acted-flow (Acceleration n) c = refl
-acted-flow (FlagLevel n) c = refl
-acted-flow (Turned n) c = refl
-acted-flow (MoveCurrent n) c = refl
-acted-flow (HoldCurrent n) c = refl
-acted-flow (StepSize n) c = refl
-acted-flow (Correction n) c = refl
-acted-flow (Outputs n) c = refl
-acted-flow (Baud n) c = refl
+acted-flow (Set which n) c = refl
 acted-flow (Delay n) c = refl
 acted-flow (WaitInput n) c = refl
 

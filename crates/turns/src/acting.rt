@@ -11,22 +11,14 @@ pub(crate) fn act(c: Core, a: Act) -> Core
     ensures { λ r. ⌜ r ≡ acted a c ⌝ }
 {
     let m = c.motor;
+    let s = c.settings;
     match a {
         Act::MoveTo(n) => move_on(c, motor::move_to(m, n)),
         Act::MoveUp(n) => move_on(c, motor::move_by(m, true, n)),
         Act::MoveDown(n) => move_on(c, motor::move_by(m, false, n)),
         Act::SetPosition(n) => crate::set_motor(c, motor::place_at(m, n)),
         Act::Home(n) => crate::set_motor(c, motor::home(m, setting::flag_of(c), n)),
-        Act::TopSpeed(n) => setting::set_speed(c, n),
-        Act::Acceleration(n) => setting::set_acceleration(c, n),
-        Act::FlagLevel(n) => setting::set_flag(c, n),
-        Act::Turned(n) => setting::set_turned(c, n),
-        Act::MoveCurrent(n) => setting::set_moving(c, n),
-        Act::HoldCurrent(n) => setting::set_holding(c, n),
-        Act::StepSize(n) => setting::set_step_size(c, n),
-        Act::Correction(n) => setting::set_correction(c, n),
-        Act::Outputs(n) => setting::set_outputs(c, n),
-        Act::Baud(n) => setting::set_baud(c, n),
+        Act::Set(which, n) => crate::set_settings(c, setting::set(s, which, n)),
         Act::Delay(n) => crate::set_motor(c, motor::delay(m, n)),
         Act::WaitInput(n) => crate::set_motor(c, motor::hold(m, n)),
     }

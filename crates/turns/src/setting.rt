@@ -1,11 +1,24 @@
-// The settings of a unit, each set by its command.
+// The settings of a unit: what each is at a fresh start, and how each is set.
 ghost use mathlib.Core.Path.{_≡_};
-ghost use Rattle.turns.specs.Settings.{defaults, withSpeed, withAcceleration, withFlag, withTurned, withMoveCurrent, withHoldCurrent, withCorrection, withOutputs, withBaud};
-ghost use Rattle.turns.specs.Turns.{withSettings, acted};
+ghost use Rattle.commands.specs.Table.{exponentOf};
+ghost use Rattle.turns.specs.Settings.{defaults, exponentOr, withSetting};
 use crate::Core;
-use crate::Settings;
-use commands::Act;
 use commands::Exponent;
+use commands::Setting;
+
+// V L f F m h j o J b; of j the exponent.
+pub struct Settings {
+    pub speed: u32,
+    pub acceleration: u32,
+    pub flag: u32,
+    pub turned: u32,
+    pub moving: u32,
+    pub holding: u32,
+    pub exponent: u32,
+    pub correction: u32,
+    pub outputs: u32,
+    pub baud: u32,
+}
 
 // The settings of a fresh unit.
 pub(crate) fn default_settings() -> Settings
@@ -25,96 +38,34 @@ pub(crate) fn default_settings() -> Settings
     }
 }
 
-fn set_settings(c: Core, s: Settings) -> Core
-    ensures { λ r. ⌜ r ≡ withSettings s c ⌝ }
+// The settings with one of them set.
+pub(crate) fn set(s: Settings, which: Setting, n: u32) -> Settings
+    ensures { λ r. ⌜ r ≡ withSetting which n s ⌝ }
 {
-    let mut d = c;
-    d.settings = s;
-    d
+    let mut t = s;
+    match which {
+        Setting::TopSpeed => t.speed = n,
+        Setting::Acceleration => t.acceleration = n,
+        Setting::FlagLevel => t.flag = n,
+        Setting::Turned => t.turned = n,
+        Setting::MoveCurrent => t.moving = n,
+        Setting::HoldCurrent => t.holding = n,
+        Setting::StepSize => t.exponent = exponent_kept(s.exponent, n),
+        Setting::Correction => t.correction = n,
+        Setting::Outputs => t.outputs = n,
+        Setting::Baud => t.baud = n,
+    }
+    t
 }
 
-pub(crate) fn set_speed(c: Core, n: u32) -> Core
-    ensures { λ r. ⌜ r ≡ withSettings (withSpeed n (c .settings)) c ⌝ }
-{
-    let mut s = c.settings;
-    s.speed = n;
-    set_settings(c, s)
-}
-
-pub(crate) fn set_acceleration(c: Core, n: u32) -> Core
-    ensures { λ r. ⌜ r ≡ withSettings (withAcceleration n (c .settings)) c ⌝ }
-{
-    let mut s = c.settings;
-    s.acceleration = n;
-    set_settings(c, s)
-}
-
-pub(crate) fn set_flag(c: Core, n: u32) -> Core
-    ensures { λ r. ⌜ r ≡ withSettings (withFlag n (c .settings)) c ⌝ }
-{
-    let mut s = c.settings;
-    s.flag = n;
-    set_settings(c, s)
-}
-
-pub(crate) fn set_turned(c: Core, n: u32) -> Core
-    ensures { λ r. ⌜ r ≡ withSettings (withTurned n (c .settings)) c ⌝ }
-{
-    let mut s = c.settings;
-    s.turned = n;
-    set_settings(c, s)
-}
-
-pub(crate) fn set_moving(c: Core, n: u32) -> Core
-    ensures { λ r. ⌜ r ≡ withSettings (withMoveCurrent n (c .settings)) c ⌝ }
-{
-    let mut s = c.settings;
-    s.moving = n;
-    set_settings(c, s)
-}
-
-pub(crate) fn set_holding(c: Core, n: u32) -> Core
-    ensures { λ r. ⌜ r ≡ withSettings (withHoldCurrent n (c .settings)) c ⌝ }
-{
-    let mut s = c.settings;
-    s.holding = n;
-    set_settings(c, s)
-}
-
-pub(crate) fn set_correction(c: Core, n: u32) -> Core
-    ensures { λ r. ⌜ r ≡ withSettings (withCorrection n (c .settings)) c ⌝ }
-{
-    let mut s = c.settings;
-    s.correction = n;
-    set_settings(c, s)
-}
-
-pub(crate) fn set_outputs(c: Core, n: u32) -> Core
-    ensures { λ r. ⌜ r ≡ withSettings (withOutputs n (c .settings)) c ⌝ }
-{
-    let mut s = c.settings;
-    s.outputs = n;
-    set_settings(c, s)
-}
-
-pub(crate) fn set_baud(c: Core, n: u32) -> Core
-    ensures { λ r. ⌜ r ≡ withSettings (withBaud n (c .settings)) c ⌝ }
-{
-    let mut s = c.settings;
-    s.baud = n;
-    set_settings(c, s)
-}
-
-// The exponent of a step size is kept.
-pub(crate) fn set_step_size(c: Core, n: u32) -> Core
-    ensures { λ r. ⌜ r ≡ acted (Act.StepSize n) c ⌝ }
+// The exponent of a step size, or the one before where it has none.
+fn exponent_kept(before: u32, n: u32) -> u32
+    ensures { λ r. ⌜ r ≡ exponentOr before (exponentOf n) ⌝ }
 {
     let Exponent::Power(e) = commands::exponent_of(n) else {
-        return c;
+        return before;
     };
-    let mut s = c.settings;
-    s.exponent = e;
-    set_settings(c, s)
+    e
 }
 
 // The setting f.
