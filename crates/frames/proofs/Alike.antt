@@ -62,7 +62,7 @@ stored-same b r t s s′ m =
           rw (← m .long)
           (simp e
           (record { long = refl; bytes = more-same (r .body) (t .body) (r .length) b (omega arith) (omega arith) (m .bytes) }))
-      | inr e ↦ rw (← m .long) (simp e (record { long = m .long; bytes = m .bytes }))
+      | inr e ↦ rw (← m .long) (simp e (record { long = refl; bytes = m .bytes }))
     ]
 
 stored-alike : (b : ℕ) (r t : Receiver) → r .place ≡ t .place → Sound r → Sound t → SameBody r t

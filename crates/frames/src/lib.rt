@@ -98,7 +98,12 @@ pub fn receive(p: Progress, body: &mut [u8; MOST_KEPT], unit: u8, bytes: &[u8]) 
 {
     let place = p.place;
     let length = p.length;
-    let mut h = at(place, length);
+    let mut h = Head {
+        place,
+        length,
+        frame: Frame::Nothing,
+        framing: Framing::Plain,
+    };
     let mut i: usize = 0;
     while i < bytes.len() {
         let b = bytes[i];
@@ -202,8 +207,8 @@ fn take(place: Place, length: usize, body: &mut [u8; MOST_KEPT], unit: u8, b: u8
     match place {
         Place::Outside => at(place, length),
         Place::Address => in_address(length, unit, b),
-        Place::Alone => add(Frame::Alone, place, length, body, b),
-        Place::Group => add(Frame::Group, place, length, body, b),
+        Place::Alone => add(Frame::Alone, Place::Alone, length, body, b),
+        Place::Group => add(Frame::Group, Place::Group, length, body, b),
         Place::OemAddress => in_oem_address(length, unit, b),
         Place::OemSequence(w, s) => in_oem_sequence(w, s, length, b),
         Place::OemBody(w, q, s) => in_oem_body(w, q, s, length, body, b),
