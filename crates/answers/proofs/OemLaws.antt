@@ -104,6 +104,7 @@ by-sum s {c} h a b x e = go (eqb (getD s (length s - 2 + 1) 0) c) refl
   where
     right : c ≡ oemSum (statusIn s) (oemDataIn s)
     right = e ∙ ap checksumOf (front-taken s h a b x)
+
     go : (t : Bool) → eqb (getD s (length s - 2 + 1) 0) c ≡ t → t ≡ oemFramed s
     go true f =
         let whole : s ≡ oemPacket (statusIn s) (oemDataIn s) =
