@@ -23,10 +23,10 @@ returns-2 : tie.Need-returns-2
 returns-2 c = search needs
 
 returns-3 : tie.Need-returns-3
-returns-3 c = simp (c .before .before .before .before .before .framing .given .1, c .before .last .given .1, lt-leb _ _ (c .if3 .taken))
+returns-3 c = simp (c .before .before .before .before .before .framing .given .1, c .before .before .last .given .1, lt-leb _ _ (c .if1 .taken))
 
 returns-4 : tie.Need-returns-4
-returns-4 c = simp (c .before .before .before .before .before .framing .given .1, c .before .last .given .1, le-leb _ _ (c .if3 .left))
+returns-4 c = simp (c .before .before .before .before .before .framing .given .1, c .before .before .last .given .1, le-leb _ _ (c .if1 .left))
 
 pub is-repeat-spec : {M : Type 1} → statement M
 is-repeat-spec =
