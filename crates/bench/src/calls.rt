@@ -54,12 +54,16 @@ fn tell_packet(bytes: &[u8], out: &mut [u8]) -> usize {
 // `ramp V L N`, `ramp V L endless`
 pub(crate) fn tell_ramp(f: Figures, out: &mut [u8]) -> usize {
     let verdict = f.verdict;
-    match verdict {
-        Verdict::Taken => tell_figures(f, out),
-        Verdict::RefusedV => telling::add(out, 0, b"refused V"),
-        Verdict::RefusedL => telling::add(out, 0, b"refused L"),
-        Verdict::RefusedN => telling::add(out, 0, b"refused N"),
+    let k = match verdict {
+        Verdict::Taken => 0,
+        Verdict::RefusedV => 1,
+        Verdict::RefusedL => 2,
+        Verdict::RefusedN => 3,
+    };
+    if k == 0 {
+        return tell_figures(f, out);
     }
+    telling::add_nth(out, 0, b"|refused V|refused L|refused N", k)
 }
 
 // Peak and distance in decimal, each float as its bits.

@@ -1,6 +1,7 @@
 // An operation done, and its answer put together.
 use crate::calls;
 use crate::fields;
+use crate::forms;
 use crate::operation::Lend;
 use crate::operation::Operation;
 use crate::state;
@@ -19,7 +20,7 @@ pub(crate) fn perform(
     out: &mut [u8],
 ) -> Said {
     if let Operation::Lend(lend) = operation {
-        return lend_now(b, lend, line, image, out);
+        return lend_now(b, lend, line, image, buffer, out);
     }
     let n = fields::up_to(b.image_bytes, image);
     let room = fields::up_to(b.room, buffer);
@@ -34,11 +35,18 @@ pub(crate) fn perform(
 }
 
 // `image HEX`, `image empty`, `room N`
-fn lend_now(b: Bench, lend: Lend, line: &[u8], image: &mut [u8], out: &mut [u8]) -> Said {
+fn lend_now(
+    b: Bench,
+    lend: Lend,
+    line: &[u8],
+    image: &mut [u8],
+    buffer: &mut [u8],
+    out: &mut [u8],
+) -> Said {
     match lend {
         Lend::EmptyImage => image_lent(b, state::empty(image), out),
         Lend::Image(at) => image_lent(b, fields::read_bytes(line, at, image), out),
-        Lend::Room(n) => room_lent(b, n, out),
+        Lend::Room(n) => room_lent(b, n, buffer, out),
     }
 }
 
@@ -52,8 +60,9 @@ fn image_lent(b: Bench, n: usize, out: &mut [u8]) -> Said {
     }
 }
 
-// The answer buffer lent from now on has so many bytes.
-fn room_lent(b: Bench, n: usize, out: &mut [u8]) -> Said {
+// The answer buffer lent from now on has so many bytes, and nothing is written in it.
+fn room_lent(b: Bench, n: usize, buffer: &mut [u8], out: &mut [u8]) -> Said {
+    state::blank(buffer);
     let mut c = b;
     c.room = n;
     Said {
@@ -101,6 +110,8 @@ fn ask(
             count,
         } => calls::write(slot, run, line, at, count, buffer, out),
         Operation::Store => telling::add_bytes(out, 0, b"store ", image),
-        _ => telling::add(out, 0, b"?"),
+        Operation::Buffer => telling::add_bytes(out, 0, b"buffer ", buffer),
+        Operation::Help => forms::help(out),
+        _ => forms::reason(line, out),
     }
 }

@@ -85,6 +85,32 @@ pub(crate) fn part(s: &[u8], at: usize, n: usize) -> &[u8] {
     &s[at..at + n]
 }
 
+// The command at a place of a text that was checked, as it was typed; nothing where none is left.
+pub(crate) fn command_at(text: &[u8], at: usize) -> &[u8] {
+    let end = command_end(text, at);
+    if end <= at {
+        return &text[0..0];
+    }
+    part(text, at, end - at)
+}
+
+// The place past the command at a place.
+fn command_end(text: &[u8], at: usize) -> usize {
+    if text.len() <= at {
+        return at;
+    }
+    let after = at + 1;
+    if text[at] == b'g' {
+        return after;
+    }
+    let operand = digits::read_operand(text, after);
+    match operand {
+        Operand::Missing => after,
+        Operand::Number(_, end) => end,
+        Operand::Above(end) => end,
+    }
+}
+
 // n, but not more than the bytes there are.
 pub(crate) fn up_to(n: usize, bytes: &[u8]) -> usize
     ensures { λ r. ⌜ (r ≤ n) × (r ≤ length (now (bytes .entry))) ⌝ }

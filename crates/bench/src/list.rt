@@ -1,8 +1,8 @@
 // The list of `write`: commands as letters and operands.
 use crate::fields;
 use crate::fields::Number;
-use commands::Act;
 use commands::Command;
+use commands::Named;
 
 // The most commands that a line can have.
 pub(crate) const MOST: usize = 256;
@@ -19,12 +19,6 @@ enum Item {
     More(Command, usize),
     Last(Command),
     Unreadable,
-}
-
-// What a letter names.
-enum Named {
-    Is(Command),
-    NoCommand,
 }
 
 // How many commands stand from a place on: no more than the line has bytes.
@@ -89,7 +83,7 @@ fn item_of(letter: u8, operand: Number) -> Item {
     let Number::More(n, next) = operand else {
         return last_of(letter, operand);
     };
-    let Named::Is(c) = command_of(letter, n) else {
+    let Named::Is(c) = commands::command_of(letter, n) else {
         return Item::Unreadable;
     };
     Item::More(c, next)
@@ -100,48 +94,8 @@ fn last_of(letter: u8, operand: Number) -> Item {
     let Number::Last(n) = operand else {
         return Item::Unreadable;
     };
-    let Named::Is(c) = command_of(letter, n) else {
+    let Named::Is(c) = commands::command_of(letter, n) else {
         return Item::Unreadable;
     };
     Item::Last(c)
-}
-
-// The command of a letter and a number.
-fn command_of(letter: u8, n: u32) -> Named {
-    match letter {
-        b'g' => Named::Is(Command::LoopBegin),
-        b'G' => Named::Is(Command::LoopEnd(n)),
-        b'S' => Named::Is(Command::Skip(n)),
-        b'e' => Named::Is(Command::Jump(n)),
-        _ => act_of(letter, n),
-    }
-}
-
-// The same of the letters that steer no loop and no text.
-fn act_of(letter: u8, n: u32) -> Named {
-    match letter {
-        b'A' => plain(Act::MoveTo(n)),
-        b'P' => plain(Act::MoveUp(n)),
-        b'D' => plain(Act::MoveDown(n)),
-        b'z' => plain(Act::SetPosition(n)),
-        b'Z' => plain(Act::Home(n)),
-        b'V' => plain(Act::TopSpeed(n)),
-        b'L' => plain(Act::Acceleration(n)),
-        b'f' => plain(Act::FlagLevel(n)),
-        b'F' => plain(Act::Turned(n)),
-        b'm' => plain(Act::MoveCurrent(n)),
-        b'h' => plain(Act::HoldCurrent(n)),
-        b'j' => plain(Act::StepSize(n)),
-        b'o' => plain(Act::Correction(n)),
-        b'J' => plain(Act::Outputs(n)),
-        b'b' => plain(Act::Baud(n)),
-        b'M' => plain(Act::Delay(n)),
-        b'H' => plain(Act::WaitInput(n)),
-        _ => Named::NoCommand,
-    }
-}
-
-// A command that steers no loop and no text.
-fn plain(a: Act) -> Named {
-    Named::Is(Command::Plain(a))
 }

@@ -1,7 +1,9 @@
 // The tester's program: operations on standard input, one a line, and a line of answer for each.
 mod calls;
+mod course;
 mod doing;
 mod fields;
+mod forms;
 mod list;
 mod operation;
 mod state;
@@ -38,7 +40,7 @@ fn main() {
 // no run uses up.
 fn serve_input(line: &mut [u8], image: &mut [u8], buffer: &mut [u8]) {
     let mut p = Progress {
-        bench: state::begin(image),
+        bench: state::begin(image, buffer),
         length: 0,
         more: true,
     };

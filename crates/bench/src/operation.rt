@@ -28,6 +28,8 @@ pub(crate) enum Operation {
         count: usize,
     },
     Store,
+    Buffer,
+    Help,
 }
 
 // What is lent from now on.
@@ -40,6 +42,8 @@ pub(crate) enum Lend {
 // An operation on the unit.
 pub(crate) enum OnUnit {
     Turn { sample: u8, ms: u32, steps: u32 },
+    // Turns until the run ends or waits, and whether each is told.
+    Run { sample: u8, ms: u32, told: bool },
     // Bytes in hex, or the whole line as a person types it.
     Feed { typed: bool, at: usize },
     Tell,
@@ -76,6 +80,8 @@ fn alone(word: Word) -> Operation {
     match word {
         Word::Unit => Operation::OnUnit(OnUnit::Tell),
         Word::Store => Operation::Store,
+        Word::Buffer => Operation::Buffer,
+        Word::Help => Operation::Help,
         _ => Operation::Unreadable,
     }
 }
@@ -87,6 +93,8 @@ fn with_fields(word: Word, line: &[u8], at: usize) -> Operation {
         Word::Room => read_room(fields::number_at(line, at)),
         Word::Start => read_start(fields::number_at(line, at)),
         Word::Turn => read_turn(line, at),
+        Word::Run => read_run(line, at, false),
+        Word::Timeline => read_run(line, at, true),
         Word::Ramp => read_ramp(line, at),
         Word::Write => read_write(line, at),
         _ => with_bytes(word, line, at),
@@ -166,6 +174,24 @@ fn read_turn(line: &[u8], at: usize) -> Operation {
     })
 }
 
+// `run SAMPLE MS`, `timeline SAMPLE MS`
+fn read_run(line: &[u8], at: usize, told: bool) -> Operation {
+    let Number::More(sample, ms_at) = fields::number_at(line, at) else {
+        return Operation::Unreadable;
+    };
+    let Number::Last(ms) = fields::number_at(line, ms_at) else {
+        return Operation::Unreadable;
+    };
+    if BYTE_MOST < sample {
+        return Operation::Unreadable;
+    }
+    Operation::OnUnit(OnUnit::Run {
+        sample: sample as u8,
+        ms,
+        told,
+    })
+}
+
 // `ramp V L N`, `ramp V L endless`
 fn read_ramp(line: &[u8], at: usize) -> Operation {
     let Number::More(v, l_at) = fields::number_at(line, at) else {
@@ -197,16 +223,16 @@ fn read_ramp(line: &[u8], at: usize) -> Operation {
 fn read_write(line: &[u8], at: usize) -> Operation {
     let none = fields::dash_at(line, at);
     if let Number::More(_, run_at) = none {
-        return read_run(Slot::NoSlot, line, run_at);
+        return read_mode(Slot::NoSlot, line, run_at);
     }
     let Number::More(n, run_at) = fields::number_at(line, at) else {
         return Operation::Unreadable;
     };
-    read_run(Slot::Into(n), line, run_at)
+    read_mode(Slot::Into(n), line, run_at)
 }
 
 // The same from `R` or `-` on.
-fn read_run(slot: Slot, line: &[u8], at: usize) -> Operation {
+fn read_mode(slot: Slot, line: &[u8], at: usize) -> Operation {
     let held = fields::dash_at(line, at);
     if let Number::Unreadable = held {
         return read_list(slot, true, line, fields::byte_at(line, at, b'R'));

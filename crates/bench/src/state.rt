@@ -1,8 +1,15 @@
 // What the bench holds beside the bytes of image and answer buffer.
-use drive::Drive;
+use drive::Record;
+
+// A unit with the texts that are lent to its calls.
+pub(crate) struct Whole {
+    pub(crate) unit: Record,
+    pub(crate) body: [u8; BODY_BYTES],
+    pub(crate) text: [u8; TEXT_BYTES],
+}
 
 pub(crate) struct Bench {
-    pub(crate) unit: Drive,
+    pub(crate) whole: Whole,
     // Whether a start was not refused.
     pub(crate) started: bool,
     // How many bytes of the image, and of the answer buffer, are lent.
@@ -15,6 +22,11 @@ pub(crate) struct Said {
     pub(crate) bench: Bench,
     pub(crate) length: usize,
 }
+
+// The bytes lent for the body being received, and for the current text.
+pub(crate) const BODY_BYTES: usize = 257;
+
+pub(crate) const TEXT_BYTES: usize = 256;
 
 // A line has fewer bytes than that, so that a CR fits behind it; a longer one is none of the operations.
 pub(crate) const LINE_BYTES: usize = 65536;
@@ -29,16 +41,26 @@ pub(crate) const ROOM_MOST: usize = 512;
 
 const FIRST_ROOM: usize = 262;
 
+// What an answer buffer holds before anything is written in it.
+const BLANK: u8 = 0xa5;
+
 // The longest answer is `store` of the longest image.
 pub(crate) const ANSWER_BYTES: usize = 6 + 2 * IMAGE_MOST + 1;
 
 // The bench at its beginning: the image with all slots empty, and no unit but the record of a refused start.
-pub(crate) fn begin(image: &mut [u8]) -> Bench {
+pub(crate) fn begin(image: &mut [u8], buffer: &mut [u8]) -> Bench {
     let n = empty(image);
-    let none = drive::start(0, image);
+    blank(buffer);
+    let mut body = [0u8; BODY_BYTES];
+    let mut text = [0u8; TEXT_BYTES];
+    let none = drive::start(0, image, &mut body, &mut text);
     let unit = none.unit;
     Bench {
-        unit: unit,
+        whole: Whole {
+            unit: unit,
+            body: body,
+            text: text,
+        },
         started: false,
         image_bytes: n,
         room: FIRST_ROOM,
@@ -53,10 +75,16 @@ pub(crate) fn empty(image: &mut [u8]) -> usize {
     EMPTY_BYTES
 }
 
+// Makes the answer buffer one in which nothing was written.
+pub(crate) fn blank(buffer: &mut [u8]) {
+    let blanks = [BLANK; ROOM_MOST];
+    parts::put_at(buffer, 0, &blanks);
+}
+
 // The bench with another unit.
-pub(crate) fn with_unit(b: Bench, unit: Drive) -> Bench {
+pub(crate) fn with_unit(b: Bench, whole: Whole) -> Bench {
     let mut c = b;
-    c.unit = unit;
+    c.whole = whole;
     c.started = true;
     c
 }

@@ -12,6 +12,25 @@ pub(crate) fn add(out: &mut [u8], at: usize, text: &[u8]) -> usize {
     at + text.len()
 }
 
+// Adds the k-th of some texts, from 0 on, which are parted by `|`.
+pub(crate) fn add_nth(out: &mut [u8], at: usize, texts: &[u8], k: usize) -> usize {
+    add(out, at, nth(texts, k))
+}
+
+// The k-th of some texts.
+fn nth(texts: &[u8], k: usize) -> &[u8] {
+    let mut from = 0;
+    for _ in 0..k {
+        let end = bytes::scan::find(texts, from, texts.len(), b'|');
+        if texts.len() <= end {
+            return &texts[0..0];
+        }
+        from = end + 1;
+    }
+    let last = bytes::scan::find(texts, from, texts.len(), b'|');
+    &texts[from..last]
+}
+
 // Adds a name and a number in decimal.
 pub(crate) fn add_number(out: &mut [u8], at: usize, name: &[u8], n: u64) -> usize {
     let mut digits = [0u8; 20];

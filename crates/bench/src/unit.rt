@@ -1,17 +1,18 @@
 // The operations on the unit, and what they answer.
+use crate::course;
 use crate::fields;
 use crate::operation::OnUnit;
 use crate::state;
 use crate::state::Bench;
 use crate::state::Said;
+use crate::state::Whole;
 use crate::telling;
 use answers::Found;
 use drive::Fed;
 use drive::FeedAnswer;
 use drive::StartAnswer;
-use drive::StartedUnit;
 use drive::TurnAnswer;
-use drive::TurnedUnit;
+use motor::Wait;
 use turns::Action;
 use turns::Core;
 use turns::Direction;
@@ -21,32 +22,45 @@ const NUMBERS: usize = 14;
 
 // `start N`
 pub(crate) fn start(b: Bench, number: u8, image: &[u8], out: &mut [u8]) -> Said {
-    let s = drive::start(number, image);
+    let w = b.whole;
+    let mut body = w.body;
+    let mut text = w.text;
+    let s = drive::start(number, image, &mut body, &mut text);
+    let unit = s.unit;
     let answer = s.answer;
+    let whole = Whole {
+        unit: unit,
+        body: body,
+        text: text,
+    };
     Said {
-        bench: started(b, s),
+        bench: started(b, answer, whole),
         length: tell_start(answer, out),
     }
 }
 
 // The bench after a start; a refused one leaves the unit as it was.
-fn started(b: Bench, s: StartedUnit) -> Bench {
-    let answer = s.answer;
+fn started(b: Bench, answer: StartAnswer, whole: Whole) -> Bench {
     let StartAnswer::Started = answer else {
         return b;
     };
-    let u = s.unit;
-    state::with_unit(b, u)
+    state::with_unit(b, whole)
 }
 
 // What came of a start.
 fn tell_start(answer: StartAnswer, out: &mut [u8]) -> usize {
-    match answer {
-        StartAnswer::Started => telling::add(out, 0, b"started"),
-        StartAnswer::UnitNumber => telling::add(out, 0, b"refused unit-number"),
-        StartAnswer::ImageLength => telling::add(out, 0, b"refused image-length"),
-        StartAnswer::ImageBad => telling::add(out, 0, b"refused image-bad"),
-    }
+    let k = match answer {
+        StartAnswer::Started => 0,
+        StartAnswer::UnitNumber => 1,
+        StartAnswer::ImageLength => 2,
+        StartAnswer::ImageBad => 3,
+    };
+    telling::add_nth(
+        out,
+        0,
+        b"started|refused unit-number|refused image-length|refused image-bad",
+        k,
+    )
 }
 
 // An operation on the unit, where there is one.
@@ -66,6 +80,7 @@ pub(crate) fn on_unit(
     }
     match on {
         OnUnit::Turn { sample, ms, steps } => turn(b, sample, ms, steps, image, out),
+        OnUnit::Run { sample, ms, told } => course::run(b, sample, ms, told, image, out),
         OnUnit::Feed { typed, at } => feed_line(b, typed, line, at, image, buffer, out),
         OnUnit::Tell => Said {
             bench: b,
@@ -108,12 +123,20 @@ fn feed(
     buffer: &mut [u8],
     out: &mut [u8],
 ) -> Said {
-    let u = b.unit;
-    let f = drive::feed(u, bytes, image, buffer);
-    let v = f.unit;
+    let w = b.whole;
+    let u = w.unit;
+    let mut body = w.body;
+    let mut text = w.text;
+    let f = drive::feed(u, &mut body, &mut text, bytes, image, buffer);
+    let unit = f.unit;
     let n = fields::up_to(f.answered, buffer);
+    let whole = Whole {
+        unit: unit,
+        body: body,
+        text: text,
+    };
     Said {
-        bench: state::with_unit(b, v),
+        bench: state::with_unit(b, whole),
         length: tell_feed(f, typed, &buffer[0..n], out),
     }
 }
@@ -121,11 +144,15 @@ fn feed(
 // What came of a feed.
 fn tell_feed(f: Fed, typed: bool, packet: &[u8], out: &mut [u8]) -> usize {
     let answer = f.answer;
-    match answer {
-        FeedAnswer::Taken => tell_fed(f.consumed, typed, packet, out),
-        FeedAnswer::BufferShort => telling::add(out, 0, b"refused buffer"),
-        FeedAnswer::ImageLength => telling::add(out, 0, b"refused image-length"),
+    let k = match answer {
+        FeedAnswer::Taken => 0,
+        FeedAnswer::BufferShort => 1,
+        FeedAnswer::ImageLength => 2,
+    };
+    if k == 0 {
+        return tell_fed(f.consumed, typed, packet, out);
     }
+    telling::add_nth(out, 0, b"|refused buffer|refused image-length", k)
 }
 
 // How many bytes were consumed, and the answer; of a typed line the answer alone, as text.
@@ -160,45 +187,190 @@ fn tell_status(idle: bool, code: u8, out: &mut [u8]) -> usize {
     telling::add_number(out, 0, b"busy ", code as u64)
 }
 
+// The bench after a turn, and what came of it.
+pub(crate) struct Turned {
+    pub(crate) bench: Bench,
+    pub(crate) action: Action,
+    pub(crate) answer: TurnAnswer,
+}
+
+// A turn.
+pub(crate) fn take_turn(b: Bench, sample: u8, ms: u32, steps: u32, image: &[u8]) -> Turned {
+    let w = b.whole;
+    let u = w.unit;
+    let body = w.body;
+    let mut text = w.text;
+    let t = drive::turn(u, &mut text, sample, ms, steps, image);
+    let unit = t.unit;
+    let action = t.action;
+    let answer = t.answer;
+    let whole = Whole {
+        unit: unit,
+        body: body,
+        text: text,
+    };
+    Turned {
+        bench: state::with_unit(b, whole),
+        action: action,
+        answer: answer,
+    }
+}
+
 // `turn SAMPLE MS STEPS`
 fn turn(b: Bench, sample: u8, ms: u32, steps: u32, image: &[u8], out: &mut [u8]) -> Said {
-    let u = b.unit;
-    let t = drive::turn(u, sample, ms, steps, image);
-    let v = t.unit;
+    let t = take_turn(b, sample, ms, steps, image);
+    let c = t.bench;
+    let action = t.action;
+    let answer = t.answer;
     Said {
-        bench: state::with_unit(b, v),
-        length: tell_turn(t, out),
+        bench: c,
+        length: tell_turn(answer, action, out),
     }
 }
 
 // What came of a turn.
-fn tell_turn(t: TurnedUnit, out: &mut [u8]) -> usize {
-    let answer = t.answer;
-    let action = t.action;
-    match answer {
-        TurnAnswer::Taken => tell_action(action, out),
-        TurnAnswer::ImageLength => telling::add(out, 0, b"refused image-length"),
-        TurnAnswer::Sample => telling::add(out, 0, b"refused sample"),
-        TurnAnswer::Steps => telling::add(out, 0, b"refused steps"),
+fn tell_turn(answer: TurnAnswer, action: Action, out: &mut [u8]) -> usize {
+    let k = match answer {
+        TurnAnswer::Taken => 0,
+        TurnAnswer::ImageLength => 1,
+        TurnAnswer::Sample => 2,
+        TurnAnswer::Steps => 3,
+    };
+    if k == 0 {
+        return tell_action(action, 0, out);
     }
+    telling::add_nth(
+        out,
+        0,
+        b"|refused image-length|refused sample|refused steps",
+        k,
+    )
 }
 
 // The next motor action.
-fn tell_action(action: Action, out: &mut [u8]) -> usize {
+pub(crate) fn tell_action(action: Action, at: usize, out: &mut [u8]) -> usize {
     let direction = action.direction;
-    match direction {
-        Direction::Up => telling::add_number(out, 0, b"act up ", action.number as u64),
-        Direction::Down => telling::add_number(out, 0, b"act down ", action.number as u64),
-        Direction::Still => telling::add(out, 0, b"act none"),
+    let k = match direction {
+        Direction::Still => 0,
+        Direction::Up => 1,
+        Direction::Down => 2,
+    };
+    let next = telling::add_nth(out, at, b"act none|act up |act down ", k);
+    if k == 0 {
+        return next;
     }
+    telling::add_number(out, next, b"", action.number as u64)
+}
+
+// Where a unit stands between two turns.
+pub(crate) struct Stand {
+    pub(crate) running: bool,
+    pub(crate) code: u8,
+    // The place of the next command.
+    pub(crate) at: usize,
+    pub(crate) position: u32,
+    pub(crate) known: bool,
+    // The greatest number of the last action.
+    pub(crate) steps: u32,
+    pub(crate) wait: Waited,
+}
+
+// What a run waits for, and what is left of it; of an input its two digits.
+pub(crate) struct Waited {
+    pub(crate) what: usize,
+    pub(crate) number: u32,
+}
+
+// What a run can wait for, as `timeline` names it.
+pub(crate) const NOTHING: usize = 0;
+
+const MOVE: usize = 1;
+
+const ENDLESS: usize = 2;
+
+const AWAY: usize = 3;
+
+const TOWARD: usize = 4;
+
+const DELAY: usize = 5;
+
+pub(crate) const INPUT: usize = 6;
+
+// Where the unit stands.
+pub(crate) fn standing(b: Bench) -> Stand {
+    let w = b.whole;
+    let u = w.unit;
+    let c = u.core;
+    let f = c.flow;
+    let m = c.motor;
+    let last = m.last;
+    let wait = m.wait;
+    Stand {
+        running: c.running,
+        code: c.code,
+        at: f.at,
+        position: m.position,
+        known: m.known,
+        steps: last.number,
+        wait: waiting(wait),
+    }
+}
+
+// What a run waits for.
+fn waiting(wait: Wait) -> Waited {
+    match wait {
+        Wait::Nothing => waits(NOTHING, 0),
+        Wait::Move { up, endless, left } => waits_for_move(endless, left),
+        Wait::LegAway { left, span } => waits(AWAY, left),
+        Wait::LegToward(left) => waits(TOWARD, left),
+        Wait::Delay(left) => waits(DELAY, left),
+        Wait::Input(digits) => waits(INPUT, digits),
+    }
+}
+
+fn waits_for_move(endless: bool, left: u32) -> Waited {
+    if endless {
+        return waits(ENDLESS, left);
+    }
+    waits(MOVE, left)
+}
+
+fn waits(what: usize, number: u32) -> Waited {
+    Waited {
+        what: what,
+        number: number,
+    }
+}
+
+// Adds the command at a place of the current text, as it was typed; `end` where none is left.
+pub(crate) fn add_command(b: Bench, place: usize, out: &mut [u8], at: usize) -> usize {
+    let w = b.whole;
+    let u = w.unit;
+    let c = u.core;
+    let f = c.flow;
+    let text = w.text;
+    add_typed(text, f.length, place, out, at)
+}
+
+// The same of a text: the first bytes of an array.
+fn add_typed(
+    text: [u8; state::TEXT_BYTES],
+    length: usize,
+    place: usize,
+    out: &mut [u8],
+    at: usize,
+) -> usize {
+    let n = fields::up_to(length, &text);
+    telling::add(out, at, fields::command_at(&text[0..n], place))
 }
 
 // `unit`
 fn tell(b: Bench, out: &mut [u8]) -> usize {
-    let u = b.unit;
+    let w = b.whole;
+    let u = w.unit;
     let c = u.core;
     let f = c.flow;
-    let text = u.text;
+    let text = w.text;
     let at = tell_state(c.running, out);
     let next = tell_numbers(numbers_of(c), at, out);
     tell_text(text, f.length, next, out)
@@ -248,7 +420,7 @@ fn numbers_of(c: Core) -> [u32; NUMBERS] {
 }
 
 // The current text: the first bytes of an array.
-fn tell_text(text: [u8; 256], length: usize, at: usize, out: &mut [u8]) -> usize {
+fn tell_text(text: [u8; state::TEXT_BYTES], length: usize, at: usize, out: &mut [u8]) -> usize {
     let n = fields::up_to(length, &text);
     telling::add_bytes(out, at, b" text=", &text[0..n])
 }

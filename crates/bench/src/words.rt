@@ -1,11 +1,15 @@
 // The first words of operations.
+use crate::forms;
 
 pub(crate) enum Word {
     Image,
     Room,
+    Buffer,
     Start,
     Feed,
     Turn,
+    Run,
+    Timeline,
     Unit,
     Store,
     Line,
@@ -13,51 +17,31 @@ pub(crate) enum Word {
     Ramp,
     Write,
     Read,
+    Help,
     Unknown,
 }
 
-// The word that these bytes are.
+// The word that these bytes are: the number of its row in the table of forms.
 pub(crate) fn word_of(w: &[u8]) -> Word {
-    if check::same(w, b"image") {
-        return Word::Image;
+    let row = forms::row_of(w);
+    let number = row.number;
+    match number {
+        0 => Word::Image,
+        2 => Word::Room,
+        3 => Word::Buffer,
+        4 => Word::Start,
+        5 => Word::Feed,
+        6 => Word::Turn,
+        7 => Word::Run,
+        8 => Word::Timeline,
+        9 => Word::Unit,
+        10 => Word::Store,
+        11 => Word::Line,
+        12 => Word::Text,
+        13 => Word::Ramp,
+        15 => Word::Write,
+        16 => Word::Read,
+        18 => Word::Help,
+        _ => Word::Unknown,
     }
-    if check::same(w, b"room") {
-        return Word::Room;
-    }
-    if check::same(w, b"start") {
-        return Word::Start;
-    }
-    if check::same(w, b"feed") {
-        return Word::Feed;
-    }
-    if check::same(w, b"turn") {
-        return Word::Turn;
-    }
-    if check::same(w, b"unit") {
-        return Word::Unit;
-    }
-    further_word(w)
-}
-
-// The same of the further words.
-fn further_word(w: &[u8]) -> Word {
-    if check::same(w, b"store") {
-        return Word::Store;
-    }
-    if check::same(w, b"line") {
-        return Word::Line;
-    }
-    if check::same(w, b"text") {
-        return Word::Text;
-    }
-    if check::same(w, b"ramp") {
-        return Word::Ramp;
-    }
-    if check::same(w, b"write") {
-        return Word::Write;
-    }
-    if check::same(w, b"read") {
-        return Word::Read;
-    }
-    Word::Unknown
 }

@@ -20,7 +20,8 @@ use Rattle.digits.specs.ReadBack.{spelling}
 use Rattle.digits.proofs.ReadBack.{read-back, spelled, missing-run, no-digit, decimal-digit}
 use Rattle.commands.specs.declared.Command.{Command}
 use Rattle.commands.specs.declared.Command.the-variants.{LoopBegin, LoopEnd, Skip, Jump, Plain}
-use Rattle.commands.specs.declared.Act.the-variants.{MoveTo, MoveUp, MoveDown, SetPosition, Home, TopSpeed, Acceleration, FlagLevel, Turned, MoveCurrent, HoldCurrent, StepSize, Correction, Outputs, Baud, Delay, WaitInput}
+use Rattle.commands.specs.declared.Act.the-variants.{MoveTo, MoveUp, MoveDown, SetPosition, Home, Set, Delay, WaitInput}
+use Rattle.commands.specs.declared.Setting.the-variants.{TopSpeed, Acceleration, FlagLevel, Turned, MoveCurrent, HoldCurrent, StepSize, Correction, Outputs, Baud}
 use Rattle.commands.specs.declared.Asks.{Asks}
 use Rattle.commands.specs.declared.Asks.the-variants.{Unknown, Nothing, Required, OrElse}
 use Rattle.commands.specs.declared.Range.{Range}
@@ -122,16 +123,16 @@ row-of (Plain (MoveUp n)) = number 80 n (From 0 top) refl (omega arith) refl
 row-of (Plain (MoveDown n)) = number 68 n (From 0 top) refl (omega arith) refl
 row-of (Plain (SetPosition n)) = number 122 n (From 0 top) refl (omega arith) refl
 row-of (Plain (Home n)) = number 90 n (From 0 top) refl (omega arith) refl
-row-of (Plain (TopSpeed n)) = number 86 n (From 1 16777216) refl (omega arith) refl
-row-of (Plain (Acceleration n)) = number 76 n (From 1 65000) refl (omega arith) refl
-row-of (Plain (FlagLevel n)) = number 102 n (From 0 1) refl (omega arith) refl
-row-of (Plain (Turned n)) = number 70 n (From 0 1) refl (omega arith) refl
-row-of (Plain (MoveCurrent n)) = number 109 n (From 0 100) refl (omega arith) refl
-row-of (Plain (HoldCurrent n)) = number 104 n (From 0 50) refl (omega arith) refl
-row-of (Plain (StepSize n)) = number 106 n OneBit refl tt refl
-row-of (Plain (Correction n)) = number 111 n (From 1400 1650) refl (omega arith) refl
-row-of (Plain (Outputs n)) = number 74 n (From 0 3) refl (omega arith) refl
-row-of (Plain (Baud n)) = number 98 n Rate refl tt refl
+row-of (Plain (Set n TopSpeed)) = number _ n (From 1 16777216) refl (omega arith) refl
+row-of (Plain (Set n Acceleration)) = number _ n (From 1 65000) refl (omega arith) refl
+row-of (Plain (Set n FlagLevel)) = number _ n (From 0 1) refl (omega arith) refl
+row-of (Plain (Set n Turned)) = number _ n (From 0 1) refl (omega arith) refl
+row-of (Plain (Set n MoveCurrent)) = number _ n (From 0 100) refl (omega arith) refl
+row-of (Plain (Set n HoldCurrent)) = number _ n (From 0 50) refl (omega arith) refl
+row-of (Plain (Set n StepSize)) = number _ n OneBit refl tt refl
+row-of (Plain (Set n Correction)) = number _ n (From 1400 1650) refl (omega arith) refl
+row-of (Plain (Set n Outputs)) = number _ n (From 0 3) refl (omega arith) refl
+row-of (Plain (Set n Baud)) = number _ n Rate refl tt refl
 row-of (Plain (Delay n)) = number 77 n (From 0 30000) refl (omega arith) refl
 row-of (Plain (WaitInput n)) = two 72 n refl refl
 

@@ -1,9 +1,11 @@
-// The operand that a letter asks for.
+// The operand that a letter asks for, and the command with it.
 ghost use mathlib.Core.Path.{_≡_};
 ghost use Prim.Native.Nat.{ℕ};
 ghost use Rattle.commands.specs.Reading.{required, orElse, begins, letterAt};
-ghost use Rattle.commands.specs.Fitting.{finished};
+ghost use Rattle.commands.specs.Fitting.{finished, actNumbered, numberedAs};
+use crate::Act;
 use crate::Asks;
+use crate::Command;
 use crate::Fitted;
 use crate::Range;
 use crate::table;
@@ -45,4 +47,33 @@ fn fit_or(range: Range, m: u32, operand: Operand, at: usize) -> Fitted
         return fit_required(range, operand, at);
     };
     Fitted::Fits(m, at)
+}
+
+// A command of a row with its number.
+pub(crate) fn numbered(c: Command, n: u32) -> Command
+    ensures { λ r. ⌜ r ≡ numberedAs n c ⌝ }
+{
+    match c {
+        Command::LoopBegin => Command::LoopBegin,
+        Command::LoopEnd(_) => Command::LoopEnd(n),
+        Command::Skip(_) => Command::Skip(n),
+        Command::Jump(_) => Command::Jump(n),
+        Command::Plain(a) => Command::Plain(act_numbered(a, n)),
+    }
+}
+
+// The same of a plain command.
+fn act_numbered(a: Act, n: u32) -> Act
+    ensures { λ r. ⌜ r ≡ actNumbered n a ⌝ }
+{
+    match a {
+        Act::MoveTo(_) => Act::MoveTo(n),
+        Act::MoveUp(_) => Act::MoveUp(n),
+        Act::MoveDown(_) => Act::MoveDown(n),
+        Act::SetPosition(_) => Act::SetPosition(n),
+        Act::Home(_) => Act::Home(n),
+        Act::Set(_, which) => Act::Set(n, which),
+        Act::Delay(_) => Act::Delay(n),
+        Act::WaitInput(_) => Act::WaitInput(n),
+    }
 }

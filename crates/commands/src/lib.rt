@@ -5,7 +5,7 @@ mod writing;
 
 ghost use mathlib.Core.Path.{_≡_};
 ghost use Rattle.digits.specs.Decimal.{WrittenIs};
-ghost use Rattle.commands.specs.Table.{exponentOf};
+ghost use Rattle.commands.specs.Table.{namedOf, exponentOf};
 ghost use Rattle.commands.specs.Reading.{readAt};
 ghost use Rattle.commands.specs.Writing.{spelled};
 ghost use Rattle.commands.specs.Claims.{CommandClaims};
@@ -27,18 +27,23 @@ pub enum Act {
     MoveDown(u32),
     SetPosition(u32),
     Home(u32),
-    TopSpeed(u32),
-    Acceleration(u32),
-    FlagLevel(u32),
-    Turned(u32),
-    MoveCurrent(u32),
-    HoldCurrent(u32),
-    StepSize(u32),
-    Correction(u32),
-    Outputs(u32),
-    Baud(u32),
+    Set(u32, Setting),
     Delay(u32),
     WaitInput(u32),
+}
+
+// What a command sets: a variant each, its letter and range in `table.rt`.
+pub enum Setting {
+    TopSpeed,
+    Acceleration,
+    FlagLevel,
+    Turned,
+    MoveCurrent,
+    HoldCurrent,
+    StepSize,
+    Correction,
+    Outputs,
+    Baud,
 }
 
 // Why a line is refused: 2 or 3.
@@ -51,6 +56,12 @@ pub enum Read {
     At(Command, usize),
     Bad(Fault),
     End,
+}
+
+// The command of a letter, where it has one.
+pub enum Named {
+    Is(Command),
+    NoCommand,
 }
 
 // Which numbers an operand may be.
@@ -74,6 +85,12 @@ pub enum Asks {
     Required(Range),
     // None means the number.
     OrElse(Range, u32),
+}
+
+// A letter's row: what it asks, and its command before the number is known.
+struct Lettered {
+    asks: Asks,
+    command: Command,
 }
 
 // The exponent of a power of two from 1 to 256.
@@ -106,10 +123,28 @@ pub fn read_command(s: &[u8], at: usize) -> Read
         return Read::End;
     }
     let letter = s[at];
-    let fitted = fitting::fit_at(table::asks_of(letter), s, at + 1);
+    let row = table::row_of(letter);
+    let asks = row.asks;
+    let command = row.command;
+    let fitted = fitting::fit_at(asks, s, at + 1);
     match fitted {
-        Fitted::Fits(n, next) => Read::At(table::command_of(letter, n), next),
+        Fitted::Fits(n, next) => Read::At(fitting::numbered(command, n), next),
         Fitted::Fails(code) => Read::Bad(Fault { code: code }),
+    }
+}
+
+// The command of a letter with any number, in its range or not.
+pub fn command_of(letter: u8, n: u32) -> Named
+    ensures { λ r. ⌜ r ≡ namedOf letter n ⌝ }
+{
+    let row = table::row_of(letter);
+    let asks = row.asks;
+    let command = row.command;
+    match asks {
+        Asks::Unknown => Named::NoCommand,
+        Asks::Nothing => Named::Is(fitting::numbered(command, n)),
+        Asks::Required(_) => Named::Is(fitting::numbered(command, n)),
+        Asks::OrElse(_, _) => Named::Is(fitting::numbered(command, n)),
     }
 }
 

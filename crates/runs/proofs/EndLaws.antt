@@ -10,7 +10,7 @@ use Rattle.lines.specs.declared.Body.{Body}
 use Rattle.lines.specs.Bodies.{bodyOf}
 use Rattle.turns.specs.declared.Core.{Core}
 use Rattle.turns.specs.Turns.{ended}
-use Rattle.turns.specs.Ends.{textEnds, flagNotFound, badSlot, unknown, leavesRange, rangeEnds}
+use Rattle.turns.specs.Ends.{textEnds, notClear, notCut, badSlot, unknown, leavesRange, rangeEnds}
 use Rattle.turns.proofs.MoveLaws.{clash}
 use Rattle.turns.proofs.TurnLaws.{EndedBy, cause, straying, turn-only, turn-each}
 use Rattle.drive.specs.Unit.{Drive}
@@ -95,7 +95,8 @@ module _ (u : Drive) (h : SoundUnit u) (run : u .core .running ≡ true) where
   unfolding oneOf
   cause-code c k (terminate t) = refl
   cause-code c k (inTurn m (textEnds r)) = rw (h .code-0 run)
-  cause-code c k (inTurn m (flagNotFound away left n e f l)) = refl
+  cause-code c k (inTurn m (notClear left n e f l)) = refl
+  cause-code c k (inTurn m (notCut left e f l)) = refl
   cause-code c k (inTurn m (badSlot slot next r q)) = refl
   cause-code c k (inTurn m (unknown a next r v q)) = refl
   cause-code c k (inTurn m (leavesRange a next r q l)) = refl

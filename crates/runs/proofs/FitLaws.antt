@@ -10,10 +10,9 @@ use Rattle.parts.proofs.Laws.{cases, length-padded}
 use Rattle.digits.specs.Operand.{widest}
 use Rattle.lines.specs.Texts.{mostBytes}
 use Rattle.image.specs.Image.{slotText}
-use Rattle.motor.specs.declared.Wait.{Wait}
 use Rattle.motor.specs.declared.Motor.{Motor}
-use Rattle.motor.specs.Motion.{fresh, reported, abandoned, stopped}
-use Rattle.turns.specs.declared.Settings.{Settings}
+use Rattle.motor.specs.Motion.{fresh, reported, stopped}
+use Rattle.turns.specs.declared.setting.Settings.{Settings}
 use Rattle.turns.specs.declared.Core.{Core}
 use Rattle.turns.specs.declared.Stepped.{Stepped}
 use Rattle.turns.specs.Settings.{defaults}
@@ -23,9 +22,10 @@ use Rattle.obeying.specs.Obeying.{loadedAs, textWritten}
 use Rattle.drive.specs.Unit.{Drive}
 use Rattle.drive.specs.Calls.{mostSample}
 use Rattle.motor.specs.Deeds.{Goes-on, same, waits, less, places}
-use Rattle.keeping.specs.Deeds.{Sets, none, speed, exponent, correction, other, Does, goes, ends, Steps, keeps-text, enters-text}
+use Rattle.keeping.specs.Deeds.{Sets, Does, goes, ends, Steps, keeps-text, enters-text}
 use Rattle.motor.specs.Deeds.{codeValues}
 use Rattle.obeying.specs.Deeds.{Obeys, refuses, tells, stores, clears, stops, resumes, again, loads}
+use Rattle.keeping.proofs.SettingLaws.{speed-fits, correction-fits, exponent-fits}
 use Rattle.keeping.specs.Kept.{Kept}
 
 -- of the settings those that are told: `?2`, `?7`, `?6`
@@ -54,11 +54,7 @@ fresh-fit = record { settings = record { speed = omega arith; correction = omega
 -- ---- the deeds
 
 settings-fit : {s r : Settings} → FitSettings s → Sets s r → FitSettings r
-settings-fit f none = f
-settings-fit f (speed n l) = record { speed = omega arith; correction = f .correction; exponent = f .exponent }
-settings-fit f (exponent e l) = record { speed = f .speed; correction = f .correction; exponent = l }
-settings-fit f (correction n l) = record { speed = f .speed; correction = omega arith; exponent = f .exponent }
-settings-fit f (other l k t m h p b) = f
+settings-fit f d = record { speed = speed-fits d (f .speed); correction = correction-fits d (f .correction); exponent = exponent-fits d (f .exponent) }
 
 -- the sample stays that of the turn
 sample-same : {steps : ℕ} {m n : Motor} → Goes-on steps m n → n .sample ≡ m .sample
@@ -69,14 +65,7 @@ sample-same (places p l) = refl
 
 ended-fit : (k : ℕ) (c : Core) → Fit c → k < codeValues → Fit (ended k c)
 unfolding ended stopped
-ended-fit k c h l = record { settings = h .settings; sample = rw (go (c .motor .wait)) (h .sample); code = l }
-  where
-    go : (w : Wait) → abandoned w (c .motor) .sample ≡ c .motor .sample
-    go Wait.Nothing = refl
-    go (Wait.Move up endless left) = refl
-    go (Wait.Leg away left n) = refl
-    go (Wait.Delay left) = refl
-    go (Wait.Input digits) = refl
+ended-fit k c h l = record { settings = h .settings; sample = h .sample; code = l }
 
 does-fit : {steps : ℕ} {t : List ℕ} {c d : Core} → Fit c → Does steps t c d → Fit d
 does-fit h (goes l m s) = record { settings = settings-fit (h .settings) s; sample = rw (sample-same m) (h .sample); code = h .code }

@@ -17,11 +17,10 @@ use Rattle.image.specs.Image.{slotText}
 use Rattle.frames.specs.declared.Frame.{Frame}
 use Rattle.frames.specs.declared.Framing.{Framing}
 use Rattle.frames.specs.Receive.{Received}
-use Rattle.motor.specs.declared.Wait.{Wait}
 use Rattle.motor.specs.declared.Motor.{Motor}
-use Rattle.motor.specs.Motion.{fresh, room, counted, reported, abandoned, stopped}
+use Rattle.motor.specs.Motion.{fresh, room, counted, reported, stopped}
 use Rattle.turns.specs.declared.Core.{Core}
-use Rattle.turns.specs.declared.Settings.{Settings}
+use Rattle.turns.specs.declared.setting.Settings.{Settings}
 use Rattle.turns.specs.declared.Stepped.{Stepped}
 use Rattle.turns.specs.Settings.{defaults}
 use Rattle.turns.specs.Turns.{freshCore, withMotor, started, ended, textAfter}
@@ -32,11 +31,12 @@ use Rattle.drive.specs.Unit.{Drive}
 use Rattle.drive.proofs.FeedLaws.{frame-does}
 use Rattle.drive.specs.Calls.{freshUnit, receivedBy, textThen, packetAs, answerTo, turnOf}
 use Rattle.motor.specs.Deeds.{Goes-on, same, waits, less, places}
-use Rattle.keeping.specs.Deeds.{Sets, none, speed, exponent, correction, other, Does, goes, ends, Steps, keeps-text, enters-text}
+use Rattle.keeping.specs.Deeds.{Sets, Does, goes, ends, Steps, keeps-text, enters-text}
 use Rattle.obeying.specs.Deeds.{Tells, nothingTold, textTold, positionTold, speedTold, sampleTold, stepSizeTold, correctionTold}
 use Rattle.obeying.specs.Deeds.{Obeys, refuses, tells, stores, clears, stops, resumes, again, loads}
 use Rattle.keeping.specs.Kept.{Kept, CallsKeep}
 use Rattle.keeping.proofs.CallLaws.{calls-keep}
+use Rattle.keeping.proofs.SettingLaws.{speed-fits, correction-fits}
 use Rattle.stream.specs.Steps.{State, Outcome, Quiet, Unanswered, Answer, outcomeOf, bodyIn, obeyedIn, answerIn, stepped, received, byteStep, walkOf}
 use Rattle.stream.specs.Courses.{Event, Byte, Turn, course, afterTurn}
 use Rattle.stream.specs.Fits.{FitsMotor, FitsSettings, FitsCore, Fits}
@@ -64,23 +64,12 @@ motor-fits f (less up left e) = f
 motor-fits f (places p l) = record { position = omega arith; sample = f .sample }
 
 settings-fit : {s r : Settings} → FitsSettings s → Sets s r → FitsSettings r
-settings-fit f none = f
-settings-fit f (speed n l) = record { speed = omega arith; correction = f .correction }
-settings-fit f (exponent e l) = f
-settings-fit f (correction n l) = record { speed = f .speed; correction = omega arith }
-settings-fit f (other l k t m h p b) = f
+settings-fit f d = record { speed = speed-fits d (f .speed); correction = correction-fits d (f .correction) }
 
 -- a run's stop leaves the position and the sample
 ended-fits : (code : ℕ) (c : Core) → FitsCore c → FitsCore (ended code c)
 unfolding ended stopped
-ended-fits code c f = record { motor = go (c .motor .wait); settings = f .settings }
-  where
-    go : (w : Wait) → FitsMotor (abandoned w (c .motor))
-    go Wait.Nothing = f .motor
-    go (Wait.Move up endless left) = f .motor
-    go (Wait.Leg away left n) = f .motor
-    go (Wait.Delay left) = f .motor
-    go (Wait.Input digits) = f .motor
+ended-fits code c f = record { motor = f .motor; settings = f .settings }
 
 does-fits : {steps : ℕ} {t : List ℕ} {c d : Core} → FitsCore c → Does steps t c d → FitsCore d
 does-fits f (goes l m s) = record { motor = motor-fits (f .motor) m; settings = settings-fit (f .settings) s }

@@ -10,7 +10,7 @@ use Rattle.parts.proofs.Laws.{cases}
 use Rattle.commands.specs.declared.Command.{Command}
 use Rattle.commands.specs.declared.Command.the-variants.{LoopBegin, LoopEnd, Skip, Jump, Plain}
 use Rattle.commands.specs.declared.Act.{Act}
-use Rattle.commands.specs.declared.Act.the-variants.{MoveTo, MoveUp, MoveDown, SetPosition, Home, TopSpeed, Acceleration, FlagLevel, Turned, MoveCurrent, HoldCurrent, StepSize, Correction, Outputs, Baud, Delay, WaitInput}
+use Rattle.commands.specs.declared.Act.the-variants.{MoveTo, MoveUp, MoveDown, SetPosition, Home, Set, Delay, WaitInput}
 use Rattle.commands.specs.declared.Read.{Read}
 use Rattle.commands.specs.declared.Read.the-variants.{At, Bad, End}
 use Rattle.commands.specs.Reading.{readAt}
@@ -22,13 +22,13 @@ use Rattle.motor.specs.declared.Motor.{Motor}
 use Rattle.motor.specs.declared.Moved.{Moved}
 use Rattle.motor.specs.declared.Moved.the-variants.{Stops}
 use Rattle.motor.specs.Inputs.{levelThere}
-use Rattle.motor.specs.Motion.{reported, actionOf, relative, absolute, ifKnown, served}
+use Rattle.motor.specs.Motion.{reported, isFree, actionOf, relative, absolute, ifKnown, served}
 use Rattle.motor.proofs.StopLaws as stops
 use Rattle.motor.proofs.StopLaws.{ServeStops, relative-stops, relative-leaves, known-stops, serve-stops, stops-serve}
 use Rattle.turns.specs.declared.Core.{Core}
 use Rattle.turns.specs.declared.Stepped.{Stepped}
-use Rattle.turns.specs.Turns.{withFlow, withMotor, ended, astray, moved, acted, flowed, skipped, stays, jumped, skipTaken, commandTaken, readTaken, isFree, running, stepOf, turnCore}
-use Rattle.turns.specs.Ends.{Moving, moveTo, moveUp, moveDown, Leaving, beyond, above, below, Reads, Strays, badRead, tooDeep, noneOpen, skipsBad, skipsEnd, TurnEnds, textEnds, flagNotFound, badSlot, unknown, leavesRange, rangeEnds}
+use Rattle.turns.specs.Turns.{withFlow, withMotor, ended, astray, moved, acted, flowed, skipped, stays, jumped, skipTaken, commandTaken, readTaken, running, stepOf, turnCore}
+use Rattle.turns.specs.Ends.{Moving, moveTo, moveUp, moveDown, Leaving, beyond, above, below, Reads, Strays, badRead, tooDeep, noneOpen, skipsBad, skipsEnd, TurnEnds, textEnds, notClear, notCut, badSlot, unknown, leavesRange, rangeEnds}
 use Rattle.turns.proofs.MoveLaws.{absolute-stops, absolute-leaves, clash, moved-ends, moved-stops, known-stop, unknown-stop}
 
 -- "and answers the next motor action": the action kept is that of the wait
@@ -98,16 +98,7 @@ module _ (sample ms steps : ℕ) (t image : List ℕ) (c : Core) where
       (move-ends (MoveDown n) next (relative false n then) r (moveDown n) (λ k e. let s = relative-stops false n then e in (s .0, below n (s .2))))
   act-ends (SetPosition n) next r h = clash h
   act-ends (Home n) next r h = clash h
-  act-ends (TopSpeed n) next r h = clash h
-  act-ends (Acceleration n) next r h = clash h
-  act-ends (FlagLevel n) next r h = clash h
-  act-ends (Turned n) next r h = clash h
-  act-ends (MoveCurrent n) next r h = clash h
-  act-ends (HoldCurrent n) next r h = clash h
-  act-ends (StepSize n) next r h = clash h
-  act-ends (Correction n) next r h = clash h
-  act-ends (Outputs n) next r h = clash h
-  act-ends (Baud n) next r h = clash h
+  act-ends (Set n which) next r h = clash h
   act-ends (Delay n) next r h = clash h
   act-ends (WaitInput n) next r h = clash h
 
@@ -148,7 +139,8 @@ module _ (sample ms steps : ℕ) (t image : List ℕ) (c : Core) where
       → ServeStops (c .motor .sample) (c .settings .flag) steps then w k → Ends k
   unfolding reported
   served-ends k w e (stops.rangeEnds up left f z) = cause (rangeEnds up left e f z)
-  served-ends k w e (stops.notFound away left n f l) = cause (flagNotFound away left n e f l)
+  served-ends k w e (stops.notClear left n f l) = cause (notClear left n e f l)
+  served-ends k w e (stops.notCut left f l) = cause (notCut left e f l)
 
   -- a run that a turn ends has had a cause, or has gone astray
   pub step-only : c .running ≡ true → Caused (stepOf sample ms steps t image c .core)
@@ -165,7 +157,8 @@ module _ (sample ms steps : ℕ) (t image : List ℕ) (c : Core) where
           let r : Reads t c (readAt t (c .flow .at)) = record { free = e; stands = refl } in
           rw (at-command h (readAt t (c .flow .at)) r) (read-ends (readAt t (c .flow .at)) r h)
       go (Wait.Move goesUp endless left) e = serve (Wait.Move goesUp endless left) e refl
-      go (Wait.Leg away left n) e = serve (Wait.Leg away left n) e refl
+      go (Wait.LegAway left n) e = serve (Wait.LegAway left n) e refl
+      go (Wait.LegToward left) e = serve (Wait.LegToward left) e refl
       go (Wait.Delay left) e = serve (Wait.Delay left) e refl
       go (Wait.Input digits) e = serve (Wait.Input digits) e refl
 
@@ -207,10 +200,14 @@ module _ (sample ms steps : ℕ) (t image : List ℕ) (c : Core) where
       → Ended (stepOf sample ms steps t image c) k
   unfolding readTaken commandTaken jumped ended reported
   step-each k (textEnds r) h = rw (at-command h End r) (refl, refl)
-  step-each k (flagNotFound away left n e f l) h =
-      rw (at-wait h (Wait.Leg away left n) e refl)
-      (moved-stops after (served (Wait.Leg away left n) (c .motor .sample) (c .settings .flag) ms steps then)
-      (stops-serve ms (stops.notFound away left n f l)))
+  step-each k (notClear left n e f l) h =
+      rw (at-wait h (Wait.LegAway left n) e refl)
+      (moved-stops after (served (Wait.LegAway left n) (c .motor .sample) (c .settings .flag) ms steps then)
+      (stops-serve ms (stops.notClear left n f l)))
+  step-each k (notCut left e f l) h =
+      rw (at-wait h (Wait.LegToward left) e refl)
+      (moved-stops after (served (Wait.LegToward left) (c .motor .sample) (c .settings .flag) ms steps then)
+      (stops-serve ms (stops.notCut left f l)))
   step-each k (badSlot slot next r q) h = rw (at-command h (At (Jump slot) next) r, q) (refl, refl)
   step-each k (unknown a next r m q) h = act-stops a next 7 r h (unknown-stops a next m q)
   step-each k (leavesRange a next r q l) h = act-stops a next 11 r h (leaving-stops a next q l)

@@ -15,8 +15,8 @@ use Rattle.commands.specs.Reading.{readAt}
 use Rattle.image.specs.Image.{slotGood}
 use Rattle.flow.specs.Flow.{loopBegun, loopEnded}
 use Rattle.motor.specs.declared.Wait.{Wait}
-use Rattle.motor.specs.Inputs.{levelThere, falls}
-use Rattle.motor.specs.Motion.{room, reported, awaited}
+use Rattle.motor.specs.Inputs.{levelThere, falls, cut, clear}
+use Rattle.motor.specs.Motion.{room, reported}
 use Rattle.turns.specs.declared.Core.{Core}
 
 -- `A`, `P` and `D`
@@ -54,9 +54,10 @@ pub data Strays (sample : ℕ) (t : List ℕ) (c : Core) : Type 0 where
 pub data TurnEnds (sample steps : ℕ) (t image : List ℕ) (c : Core) : ℕ → Type 0 where
   -- "end of text"
   textEnds : Reads t c End → TurnEnds sample steps t image c (c .code)
-  -- "flag not found within a leg (1)"
-  flagNotFound : (away : Bool) (left n : ℕ) → c .motor .wait ≡ Wait.Leg away left n
-      → awaited away (c .settings .flag) sample ≡ false → left ≤ steps
+  -- "flag not found within a leg (1)": not clear within the leg away, or not cut within the leg toward zero
+  notClear : (left n : ℕ) → c .motor .wait ≡ Wait.LegAway left n → clear (c .settings .flag) sample ≡ false → left ≤ steps
+      → TurnEnds sample steps t image c 1
+  notCut : (left : ℕ) → c .motor .wait ≡ Wait.LegToward left → cut (c .settings .flag) sample ≡ false → left ≤ steps
       → TurnEnds sample steps t image c 1
   -- "`e` to a slot whose entry or body, unused bytes included, breaks the image's rules (1)"
   badSlot : (slot next : ℕ) → Reads t c (At (Jump slot) next) → slotGood image slot ≡ false

@@ -9,10 +9,9 @@ use Rattle.parts.specs.Parts.{paddedText}
 use Rattle.commands.specs.declared.Command.{Command}
 use Rattle.commands.specs.declared.Command.the-variants.{LoopBegin, LoopEnd, Skip, Jump, Plain}
 use Rattle.commands.specs.declared.Act.{Act}
-use Rattle.commands.specs.declared.Act.the-variants.{MoveTo, MoveUp, MoveDown, SetPosition, Home, TopSpeed, Acceleration, FlagLevel, Turned, MoveCurrent, HoldCurrent, StepSize, Correction, Outputs, Baud, Delay, WaitInput}
+use Rattle.commands.specs.declared.Act.the-variants.{MoveTo, MoveUp, MoveDown, SetPosition, Home, Set, Delay, WaitInput}
 use Rattle.commands.specs.declared.Read.{Read}
 use Rattle.commands.specs.declared.Read.the-variants.{At, Bad, End}
-use Rattle.commands.specs.Table.{exponentOf}
 use Rattle.commands.specs.Reading.{readAt}
 use Rattle.image.specs.Image.{slotGood, slotText}
 use Rattle.flow.specs.declared.Flow.{Flow}
@@ -24,8 +23,8 @@ use Rattle.motor.specs.declared.Motor.{Motor}
 use Rattle.motor.specs.declared.Moved.{Moved}
 use Rattle.motor.specs.declared.Moved.the-variants.{Goes, Stops}
 use Rattle.motor.specs.Inputs.{levelThere}
-use Rattle.motor.specs.Motion.{waiting, placedAt, reported, answered, relative, absolute, ifKnown, homed, delayed, held, served, stopped, fresh}
-use Rattle.turns.specs.declared.Settings.{Settings}
+use Rattle.motor.specs.Motion.{waiting, placedAt, reported, isFree, answered, relative, absolute, ifKnown, homed, delayed, held, served, stopped, fresh}
+use Rattle.turns.specs.declared.setting.Settings.{Settings}
 use Rattle.turns.specs.declared.Core.{Core}
 use Rattle.turns.specs.declared.Enter.{Enter}
 use Rattle.turns.specs.declared.Enter.the-variants.{Stay, Into}
@@ -33,7 +32,7 @@ use Rattle.turns.specs.declared.Stepped.{Stepped}
 use Rattle.turns.specs.declared.Direction.{Direction}
 use Rattle.turns.specs.declared.Direction.the-variants.{Up, Down, Still}
 use Rattle.turns.specs.declared.Action.{Action}
-use Rattle.turns.specs.Settings.{defaults, withSpeed, withAcceleration, withFlag, withTurned, withMoveCurrent, withHoldCurrent, withCorrection, withOutputs, withBaud, exponentKept}
+use Rattle.turns.specs.Settings.{defaults, withSetting}
 
 -- ---- the core of a unit's record: all but its number, its receiver and its text
 
@@ -78,16 +77,7 @@ acted (MoveUp n) c = moved (ifKnown (c .motor) (relative true n (c .motor))) c
 acted (MoveDown n) c = moved (ifKnown (c .motor) (relative false n (c .motor))) c
 acted (SetPosition n) c = withMotor (placedAt n (c .motor)) c
 acted (Home n) c = withMotor (homed (c .settings .flag) n (c .motor)) c
-acted (TopSpeed n) c = withSettings (withSpeed n (c .settings)) c
-acted (Acceleration n) c = withSettings (withAcceleration n (c .settings)) c
-acted (FlagLevel n) c = withSettings (withFlag n (c .settings)) c
-acted (Turned n) c = withSettings (withTurned n (c .settings)) c
-acted (MoveCurrent n) c = withSettings (withMoveCurrent n (c .settings)) c
-acted (HoldCurrent n) c = withSettings (withHoldCurrent n (c .settings)) c
-acted (StepSize n) c = withSettings (exponentKept (exponentOf n) (c .settings)) c
-acted (Correction n) c = withSettings (withCorrection n (c .settings)) c
-acted (Outputs n) c = withSettings (withOutputs n (c .settings)) c
-acted (Baud n) c = withSettings (withBaud n (c .settings)) c
+acted (Set n which) c = withSettings (withSetting which n (c .settings)) c
 acted (Delay n) c = withMotor (delayed n (c .motor)) c
 acted (WaitInput n) c = withMotor (held n (c .motor)) c
 
@@ -132,14 +122,6 @@ readTaken (Bad f) t image c = stays (astray c)
 readTaken End t image c = stays (ended (c .code) c)
 
 -- ---- a turn
-
--- nothing is waited for
-abbrev pub isFree : Wait → Bool
-isFree Wait.Nothing = true
-isFree (Wait.Move up endless left) = false
-isFree (Wait.Leg away left n) = false
-isFree (Wait.Delay left) = false
-isFree (Wait.Input digits) = false
 
 -- "A turn either serves that wait or takes exactly one command"; the report is counted already
 unfoldable pub running : ℕ → ℕ → ℕ → List ℕ → List ℕ → Core → Stepped

@@ -5,25 +5,11 @@ mod taking;
 
 ghost use mathlib.Core.Path.{_≡_};
 ghost use Prim.Native.Nat.{min};
-ghost use Rattle.turns.specs.Turns.{withFlow, withMotor, freshCore, started, ended, isFree, running, stepOf, settled, turnCore, directionOf, actionAnswered};
+ghost use Rattle.turns.specs.Turns.{withFlow, withMotor, freshCore, started, ended, running, stepOf, settled, turnCore, directionOf, actionAnswered};
 use flow::Flow;
 use motor::Last;
 use motor::Motor;
-use motor::Wait;
-
-// V L f F m h j o J b; of j the exponent.
-pub struct Settings {
-    pub speed: u32,
-    pub acceleration: u32,
-    pub flag: u32,
-    pub turned: u32,
-    pub moving: u32,
-    pub holding: u32,
-    pub exponent: u32,
-    pub correction: u32,
-    pub outputs: u32,
-    pub baud: u32,
-}
+use setting::Settings;
 
 // A unit's record but for its number, its receiver and its text.
 pub struct Core {
@@ -120,31 +106,10 @@ fn run_on(c: Core, before: u8, ms: u32, steps: u32, text: &[u8], image: &[u8]) -
 {
     let m = c.motor;
     let w = m.wait;
-    if is_free(w) {
+    if motor::is_free(w) {
         return taking::take_next(c, text, image);
     }
     taking::stay(acting::move_on(c, motor::serve(m, before, setting::flag_of(c), ms, steps)))
-}
-
-// Whether nothing is waited for.
-fn is_free(w: Wait) -> bool
-    ensures { λ r. ⌜ r ≡ isFree w ⌝ }
-{
-    match w {
-        Wait::Nothing => true,
-        Wait::Move {
-            up: _,
-            endless: _,
-            left: _,
-        } => false,
-        Wait::Leg {
-            away: _,
-            left: _,
-            span: _,
-        } => false,
-        Wait::Delay(_) => false,
-        Wait::Input(_) => false,
-    }
 }
 
 // The report counted, then the wait or the command.

@@ -1,11 +1,24 @@
-// The settings of a unit, each set by its command.
+// The settings of a unit: what each is at a fresh start, and how each is set.
 ghost use mathlib.Core.Path.{_≡_};
-ghost use Rattle.turns.specs.Settings.{defaults, withSpeed, withAcceleration, withFlag, withTurned, withMoveCurrent, withHoldCurrent, withCorrection, withOutputs, withBaud};
-ghost use Rattle.turns.specs.Turns.{withSettings, acted};
+ghost use Rattle.turns.specs.Settings.{defaults, withSetting};
+ghost use Rattle.turns.specs.Turns.{withSettings};
 use crate::Core;
-use crate::Settings;
-use commands::Act;
 use commands::Exponent;
+use commands::Setting;
+
+// V L f F m h j o J b; of j the exponent.
+pub struct Settings {
+    pub speed: u32,
+    pub acceleration: u32,
+    pub flag: u32,
+    pub turned: u32,
+    pub moving: u32,
+    pub holding: u32,
+    pub exponent: u32,
+    pub correction: u32,
+    pub outputs: u32,
+    pub baud: u32,
+}
 
 // The settings of a fresh unit.
 pub(crate) fn default_settings() -> Settings
@@ -25,96 +38,46 @@ pub(crate) fn default_settings() -> Settings
     }
 }
 
-fn set_settings(c: Core, s: Settings) -> Core
-    ensures { λ r. ⌜ r ≡ withSettings s c ⌝ }
+// The settings with one of them set.
+pub(crate) fn set(s: Settings, which: Setting, n: u32) -> Settings
+    ensures { λ r. ⌜ r ≡ withSetting which n s ⌝ }
 {
-    let mut d = c;
-    d.settings = s;
-    d
-}
-
-pub(crate) fn set_speed(c: Core, n: u32) -> Core
-    ensures { λ r. ⌜ r ≡ withSettings (withSpeed n (c .settings)) c ⌝ }
-{
-    let mut s = c.settings;
-    s.speed = n;
-    set_settings(c, s)
-}
-
-pub(crate) fn set_acceleration(c: Core, n: u32) -> Core
-    ensures { λ r. ⌜ r ≡ withSettings (withAcceleration n (c .settings)) c ⌝ }
-{
-    let mut s = c.settings;
-    s.acceleration = n;
-    set_settings(c, s)
-}
-
-pub(crate) fn set_flag(c: Core, n: u32) -> Core
-    ensures { λ r. ⌜ r ≡ withSettings (withFlag n (c .settings)) c ⌝ }
-{
-    let mut s = c.settings;
-    s.flag = n;
-    set_settings(c, s)
-}
-
-pub(crate) fn set_turned(c: Core, n: u32) -> Core
-    ensures { λ r. ⌜ r ≡ withSettings (withTurned n (c .settings)) c ⌝ }
-{
-    let mut s = c.settings;
-    s.turned = n;
-    set_settings(c, s)
-}
-
-pub(crate) fn set_moving(c: Core, n: u32) -> Core
-    ensures { λ r. ⌜ r ≡ withSettings (withMoveCurrent n (c .settings)) c ⌝ }
-{
-    let mut s = c.settings;
-    s.moving = n;
-    set_settings(c, s)
-}
-
-pub(crate) fn set_holding(c: Core, n: u32) -> Core
-    ensures { λ r. ⌜ r ≡ withSettings (withHoldCurrent n (c .settings)) c ⌝ }
-{
-    let mut s = c.settings;
-    s.holding = n;
-    set_settings(c, s)
-}
-
-pub(crate) fn set_correction(c: Core, n: u32) -> Core
-    ensures { λ r. ⌜ r ≡ withSettings (withCorrection n (c .settings)) c ⌝ }
-{
-    let mut s = c.settings;
-    s.correction = n;
-    set_settings(c, s)
-}
-
-pub(crate) fn set_outputs(c: Core, n: u32) -> Core
-    ensures { λ r. ⌜ r ≡ withSettings (withOutputs n (c .settings)) c ⌝ }
-{
-    let mut s = c.settings;
-    s.outputs = n;
-    set_settings(c, s)
-}
-
-pub(crate) fn set_baud(c: Core, n: u32) -> Core
-    ensures { λ r. ⌜ r ≡ withSettings (withBaud n (c .settings)) c ⌝ }
-{
-    let mut s = c.settings;
-    s.baud = n;
-    set_settings(c, s)
+    let mut t = s;
+    match which {
+        Setting::TopSpeed => t.speed = n,
+        Setting::Acceleration => t.acceleration = n,
+        Setting::FlagLevel => t.flag = n,
+        Setting::Turned => t.turned = n,
+        Setting::MoveCurrent => t.moving = n,
+        Setting::HoldCurrent => t.holding = n,
+        Setting::StepSize => t = keep_exponent(s, n),
+        Setting::Correction => t.correction = n,
+        Setting::Outputs => t.outputs = n,
+        Setting::Baud => t.baud = n,
+    }
+    t
 }
 
 // The exponent of a step size is kept.
-pub(crate) fn set_step_size(c: Core, n: u32) -> Core
-    ensures { λ r. ⌜ r ≡ acted (Act.StepSize n) c ⌝ }
+fn keep_exponent(s: Settings, n: u32) -> Settings
+    ensures { λ r. ⌜ r ≡ withSetting Setting.StepSize n s ⌝ }
 {
     let Exponent::Power(e) = commands::exponent_of(n) else {
-        return c;
+        return s;
     };
-    let mut s = c.settings;
-    s.exponent = e;
-    set_settings(c, s)
+    let mut t = s;
+    t.exponent = e;
+    t
+}
+
+// The same in a core.
+pub(crate) fn set_in(c: Core, which: Setting, n: u32) -> Core
+    ensures { λ r. ⌜ r ≡ withSettings (withSetting which n (c .settings)) c ⌝ }
+{
+    let s = c.settings;
+    let mut d = c;
+    d.settings = set(s, which, n);
+    d
 }
 
 // The setting f.

@@ -3,12 +3,13 @@
 
 use std::io::Write;
 
+use crate::course::{self, End};
 use crate::host::{self, HostRefusal, Item};
 use crate::image;
 use crate::line;
 use crate::packet::{self, Packet};
 use crate::ramp::{self, Length, RampRefusal};
-use crate::turn::{Action, TurnRefusal};
+use crate::turn::TurnRefusal;
 use crate::unit::{FeedRefusal, StartRefusal, Unit};
 
 /// Appends formatted text to bytes, which cannot fail.
@@ -22,6 +23,31 @@ macro_rules! say {
 pub const LONGEST_IMAGE: usize = 4200;
 /// The longest answer buffer that can be lent.
 pub const LONGEST_ROOM: usize = 512;
+
+/// What the answer buffer holds before anything is written in it.
+const BLANK: u8 = 0xa5;
+
+/// What `help` answers.
+const HELP: &str = "\
+image HEX : lend these bytes as the image
+image empty : lend the image with all slots empty
+room N : lend an answer buffer of N bytes, each a5
+buffer : tell the answer buffer
+start N : start unit N
+feed HEX : feed these bytes
+turn SAMPLE MS STEPS : make one turn
+run SAMPLE MS : make turns until the unit is idle or waits for an input
+timeline SAMPLE MS : the same, with a line for each turn
+unit : tell the unit
+store : tell the image
+line HEX : judge a body
+text HEX : judge a text to be stored
+ramp V L N : tell the ramp of N microsteps
+ramp V L endless : tell the ramp of an endless move
+write SLOT RUN LIST : write a line from a list of commands
+read HEX : read an answer packet
+/... : feed a line as it is typed, with a CR
+help : tell the operations";
 
 /// "It holds one image (at first: all slots empty), one unit (at first: none)
 /// and an answer buffer (at first 262 bytes)."
@@ -37,8 +63,13 @@ pub struct Bench {
     list: Vec<Item>,
 }
 
-/// "A line that is none of these": it is answered `?` and changes nothing.
-struct Unreadable;
+/// "A line that is none of these": it is answered `?` and changes nothing;
+/// "behind `?` and a space a few words may say why".
+struct Unreadable(&'static str);
+
+const MISSING: Unreadable = Unreadable("a field is missing");
+const TOO_MANY: Unreadable = Unreadable("a field too many");
+const TOO_GREAT: Unreadable = Unreadable("a number is too great");
 
 type Answered = Result<(), Unreadable>;
 
@@ -48,7 +79,7 @@ impl Bench {
         Bench {
             image: image::empty().to_vec(),
             unit: None,
-            buffer: [0; LONGEST_ROOM],
+            buffer: [BLANK; LONGEST_ROOM],
             room: packet::PACKET,
             bytes: Vec::new(),
             list: Vec::new(),
@@ -75,9 +106,9 @@ impl Bench {
     pub fn answer(&mut self, operation: &[u8], out: &mut Vec<u8>) {
         let operation = operation.strip_suffix(b"\r").unwrap_or(operation);
         let begin = out.len();
-        if self.operate(operation, out).is_err() {
+        if let Err(Unreadable(why)) = self.operate(operation, out) {
             out.truncate(begin);
-            out.push(b'?');
+            say!(out, "? {why}");
         }
     }
 
@@ -92,23 +123,29 @@ impl Bench {
             b"room" => self.lend_room(only(fields)?, out),
             b"start" => self.start(only(fields)?, out),
             b"feed" => self.feed(only(fields)?, out),
-            b"turn" => self.turn(fields.ok_or(Unreadable)?, out),
-            b"unit" if fields.is_none() => {
-                self.tell_unit(out);
-                Ok(())
-            }
-            b"store" if fields.is_none() => {
-                out.extend(b"store ");
-                write_hex(&self.image, out);
-                Ok(())
-            }
+            b"turn" => self.turn(fields.ok_or(MISSING)?, out),
+            b"run" => self.run(fields.ok_or(MISSING)?, false, out),
+            b"timeline" => self.run(fields.ok_or(MISSING)?, true, out),
+            b"unit" | b"store" | b"buffer" | b"help" => self.tell(word, fields, out),
             b"line" => self.line(only(fields)?, out),
             b"text" => self.text(only(fields)?, out),
-            b"ramp" => ramp(fields.ok_or(Unreadable)?, out),
-            b"write" => self.write(fields.ok_or(Unreadable)?, out),
+            b"ramp" => ramp(fields.ok_or(MISSING)?, out),
+            b"write" => self.write(fields.ok_or(MISSING)?, out),
             b"read" => self.read(only(fields)?, out),
-            _ => Err(Unreadable),
+            _ => Err(Unreadable("no such operation")),
         }
+    }
+
+    /// The operations that are one word.
+    fn tell(&self, word: &[u8], fields: Option<&[u8]>, out: &mut Vec<u8>) -> Answered {
+        match word {
+            _ if fields.is_some() => return Err(TOO_MANY),
+            b"unit" => self.tell_unit(out),
+            b"store" => tell_bytes("store", &self.image, out),
+            b"buffer" => tell_bytes("buffer", &self.buffer[..self.room], out),
+            _ => out.extend(HELP.as_bytes()),
+        }
+        Ok(())
     }
 
     fn lend_image(&mut self, field: &[u8], out: &mut Vec<u8>) -> Answered {
@@ -117,7 +154,7 @@ impl Bench {
         } else {
             read_hex(field, &mut self.bytes)?;
             if self.bytes.len() > LONGEST_IMAGE {
-                return Err(Unreadable);
+                return Err(Unreadable("too many bytes"));
             }
             self.image.clear();
             self.image.extend(&self.bytes);
@@ -129,9 +166,10 @@ impl Bench {
     fn lend_room(&mut self, field: &[u8], out: &mut Vec<u8>) -> Answered {
         let room = number(field)? as usize;
         if room > LONGEST_ROOM {
-            return Err(Unreadable);
+            return Err(TOO_GREAT);
         }
         self.room = room;
+        self.buffer.fill(BLANK);
         say!(out, "room {room}");
         Ok(())
     }
@@ -190,12 +228,24 @@ impl Bench {
             return no_unit(out);
         };
         match unit.turn(&self.image, sample, elapsed, steps) {
-            Ok(Action::None) => say!(out, "act none"),
-            Ok(Action::Up(number)) => say!(out, "act up {number}"),
-            Ok(Action::Down(number)) => say!(out, "act down {number}"),
-            Err(TurnRefusal::ImageLength) => say!(out, "refused image-length"),
-            Err(TurnRefusal::Sample) => say!(out, "refused sample"),
-            Err(TurnRefusal::Steps) => say!(out, "refused steps"),
+            Ok(action) => say!(out, "{}", course::told(action)),
+            Err(refusal) => say!(out, "{}", turn_refusal(refusal)),
+        }
+        Ok(())
+    }
+
+    /// `run SAMPLE MS`, and `timeline SAMPLE MS`, which tells each turn.
+    fn run(&mut self, fields: &[u8], tells: bool, out: &mut Vec<u8>) -> Answered {
+        let (sample, elapsed) = cut(fields);
+        let (sample, elapsed) = (byte(sample)?, number(only(elapsed)?)?);
+        let Some(unit) = &mut self.unit else {
+            return no_unit(out);
+        };
+        match unit.course(&self.image, sample, elapsed, tells.then_some(&mut *out)) {
+            Ok((turns, End::Idle)) => say!(out, "ran {turns} idle {}", unit.code() as u8),
+            Ok((turns, End::Waits)) => say!(out, "ran {turns} waits"),
+            Ok((turns, End::Busy)) => say!(out, "ran {turns} busy"),
+            Err(refusal) => say!(out, "{}", turn_refusal(refusal)),
         }
         Ok(())
     }
@@ -248,11 +298,11 @@ impl Bench {
             b"-" => None,
             slot => Some(number(slot)?),
         };
-        let (run, list) = cut(rest.ok_or(Unreadable)?);
+        let (run, list) = cut(rest.ok_or(MISSING)?);
         let run = match run {
             b"R" => true,
             b"-" => false,
-            _ => return Err(Unreadable),
+            _ => return Err(Unreadable("neither R nor -")),
         };
         read_list(list, &mut self.list)?;
         match host::write(slot, &self.list, run, &mut self.buffer[..self.room]) {
@@ -283,6 +333,19 @@ fn feed_refusal(refusal: FeedRefusal) -> &'static str {
         FeedRefusal::Buffer => "refused buffer",
         FeedRefusal::ImageLength => "refused image-length",
     }
+}
+
+fn turn_refusal(refusal: TurnRefusal) -> &'static str {
+    match refusal {
+        TurnRefusal::ImageLength => "refused image-length",
+        TurnRefusal::Sample => "refused sample",
+        TurnRefusal::Steps => "refused steps",
+    }
+}
+
+fn tell_bytes(word: &str, bytes: &[u8], out: &mut Vec<u8>) {
+    say!(out, "{word} ");
+    write_hex(bytes, out);
 }
 
 /// "`idle 0 1000`, `busy 15`"
@@ -327,32 +390,30 @@ fn cut(fields: &[u8]) -> (&[u8], Option<&[u8]>) {
 fn only(fields: Option<&[u8]>) -> Result<&[u8], Unreadable> {
     match fields {
         Some(field) if !field.contains(&b' ') => Ok(field),
-        _ => Err(Unreadable),
+        Some(_) => Err(TOO_MANY),
+        None => Err(MISSING),
     }
 }
 
 /// The three fields that there are.
 fn three(fields: &[u8]) -> Result<[&[u8]; 3], Unreadable> {
     let (first, rest) = cut(fields);
-    let (second, rest) = cut(rest.ok_or(Unreadable)?);
+    let (second, rest) = cut(rest.ok_or(MISSING)?);
     Ok([first, second, only(rest)?])
 }
 
 /// A decimal number up to 4294967295.
 fn number(field: &[u8]) -> Result<u32, Unreadable> {
-    if field.is_empty() {
-        return Err(Unreadable);
+    if field.is_empty() || !field.iter().all(u8::is_ascii_digit) {
+        return Err(Unreadable("not a number"));
     }
-    field.iter().try_fold(0u32, |sum, byte| {
-        let digit = byte.is_ascii_digit().then(|| u32::from(byte - b'0'));
-        let sum = sum.checked_mul(10).zip(digit).and_then(|(tens, digit)| tens.checked_add(digit));
-        sum.ok_or(Unreadable)
-    })
+    let add = |sum: u32, digit: &u8| sum.checked_mul(10)?.checked_add(u32::from(digit - b'0'));
+    field.iter().try_fold(0, add).ok_or(TOO_GREAT)
 }
 
 /// "SAMPLE and the unit's number": a number up to 255.
 fn byte(field: &[u8]) -> Result<u8, Unreadable> {
-    number(field)?.try_into().map_err(|_| Unreadable)
+    number(field)?.try_into().map_err(|_| TOO_GREAT)
 }
 
 /// "LIST is nothing, or letter and operand parted by spaces".
@@ -361,7 +422,7 @@ fn read_list(list: Option<&[u8]>, items: &mut Vec<Item>) -> Answered {
     let mut rest = list;
     while let Some(fields) = rest {
         let (letter, after) = cut(fields);
-        let (operand, after) = cut(after.ok_or(Unreadable)?);
+        let (operand, after) = cut(after.ok_or(Unreadable("an operand is missing"))?);
         items.push(item(letter, operand)?);
         rest = after;
     }
@@ -372,15 +433,15 @@ fn read_list(list: Option<&[u8]>, items: &mut Vec<Item>) -> Answered {
 /// a `-`"
 fn item(letter: &[u8], operand: &[u8]) -> Result<Item, Unreadable> {
     let &[letter] = letter else {
-        return Err(Unreadable);
+        return Err(Unreadable("no such command"));
     };
     let operand = match letter {
         b'g' if operand == b"-" => 0,
-        b'g' => return Err(Unreadable),
-        b'H' | b'S' if operand.len() != 2 => return Err(Unreadable),
+        b'g' => return Err(Unreadable("the operand of g is -")),
+        b'H' | b'S' if operand.len() != 2 => return Err(Unreadable("not two digits")),
         _ => number(operand)?,
     };
-    Item::new(letter, operand).ok_or(Unreadable)
+    Item::new(letter, operand).ok_or(Unreadable("no such command"))
 }
 
 /// Bytes as "hex digits, either case, two a byte; no bytes is `-`".
@@ -395,8 +456,11 @@ fn read_hex(field: &[u8], bytes: &mut Vec<u8>) -> Answered {
         return Ok(());
     }
     let (pairs, odd) = field.as_chunks::<2>();
-    if pairs.is_empty() || !odd.is_empty() {
-        return Err(Unreadable);
+    if !odd.is_empty() {
+        return Err(Unreadable("an odd hex digit"));
+    }
+    if pairs.is_empty() {
+        return Err(MISSING);
     }
     for &[high, low] in pairs {
         bytes.push(hex_digit(high)? << 4 | hex_digit(low)?);
@@ -409,8 +473,15 @@ fn hex_digit(byte: u8) -> Result<u8, Unreadable> {
         b'0'..=b'9' => Ok(byte - b'0'),
         b'a'..=b'f' => Ok(byte - b'a' + 10),
         b'A'..=b'F' => Ok(byte - b'A' + 10),
-        _ => Err(Unreadable),
+        _ => Err(Unreadable("not a hex digit")),
     }
+}
+
+/// An operation with bytes as its one field.
+pub fn with_hex(word: &str, bytes: &[u8]) -> Vec<u8> {
+    let mut operation = format!("{word} ").into_bytes();
+    write_hex(bytes, &mut operation);
+    operation
 }
 
 /// Appends bytes as lower-case hex digits, or `-`.

@@ -62,6 +62,26 @@ const ANSWERS: &[&str] = &[
     "turn: act none",
     "turn: act up",
     "turn: act down",
+    "run: no unit",
+    "run: refused image-length",
+    "run: refused sample",
+    "run: idle 0",
+    "run: idle 1",
+    "run: idle 7",
+    "run: idle 11",
+    "run: waits",
+    "run: busy",
+    "timeline: no unit",
+    "timeline: refused image-length",
+    "timeline: refused sample",
+    "timeline: idle 0",
+    "timeline: idle 1",
+    "timeline: idle 7",
+    "timeline: idle 11",
+    "timeline: waits",
+    "buffer: untouched",
+    "buffer: written",
+    "help: told",
     "unit: no unit",
     "unit: idle",
     "unit: running",
@@ -89,8 +109,8 @@ const ANSWERS: &[&str] = &[
 
 /// The words of the operations; each can be unreadable.
 const WORDS: &[&str] = &[
-    "image", "room", "start", "feed", "turn", "unit", "store", "line", "text", "ramp", "write", "read",
-    "other",
+    "image", "room", "buffer", "start", "feed", "turn", "run", "timeline", "unit", "store", "line", "text",
+    "ramp", "write", "read", "help", "other",
 ];
 
 /// Every kind that [`of_event`] names.
@@ -183,8 +203,16 @@ pub fn of_answer(operation: &[u8], answer: &[u8]) -> String {
 
 /// The answer without what varies in it.
 fn short(word: &str, operation: &str, answer: &str) -> String {
-    let fields: Vec<&str> = answer.split(' ').collect();
+    // Of many lines the last one tells the end.
+    let fields: Vec<&str> = answer.rsplit('\n').next().unwrap_or_default().split(' ').collect();
     match (word, &fields[..]) {
+        (_, ["?", ..]) => "?".to_string(),
+        ("help", _) => "told".to_string(),
+        ("run" | "timeline", ["ran", _, end @ ..]) => end.join(" "),
+        ("buffer", [_, content]) => {
+            let untouched = content.trim_start_matches("a5").is_empty() || *content == "-";
+            if untouched { "untouched" } else { "written" }.to_string()
+        }
         ("feed", ["fed", consumed, "-"]) => {
             let all = consumed.parse() == Ok(fed_bytes(operation));
             format!("{} consumed, no answer", if all { "all" } else { "part" })

@@ -4,7 +4,7 @@
 //!
 //! The words in quotes in the comments are the paper's. The model is the
 //! judge in a comparison: [`bench`] speaks the tester's language over it,
-//! [`random`] writes scripts in that language, [`kinds`] names what came
+//! [`course`] makes turns one after another for it, [`random`] writes scripts in that language, [`kinds`] names what came
 //! back, [`shrink`] makes a disagreement short. [`pace`] repeats feed and
 //! turn, to time them.
 
@@ -22,6 +22,7 @@ pub mod turn;
 pub mod unit;
 
 pub mod bench;
+pub mod course;
 pub mod kinds;
 pub mod pace;
 pub mod random;

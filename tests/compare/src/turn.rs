@@ -15,6 +15,8 @@ const INPUT_2: u8 = 0b0010;
 const INPUT_3: u8 = 0b0100;
 /// "If cut, move away at most 10,000 until clear".
 const AWAY: u32 = 10_000;
+/// E2: the leg toward zero is "n + 400".
+const EXTRA: u32 = 400;
 
 /// A direction as the position counts, before `F1` turns it.
 #[derive(Clone, Copy, Debug, PartialEq, Eq)]
@@ -86,6 +88,11 @@ impl Move {
         self.endless
     }
 
+    /// The microsteps that are left.
+    pub fn left(self) -> u32 {
+        self.left
+    }
+
     fn motion(self) -> Motion {
         Motion { number: self.left, direction: self.direction, homing: false }
     }
@@ -96,7 +103,7 @@ impl Move {
 pub enum Leg {
     /// "move away at most 10,000 until clear", `then` the next leg's number.
     Away { left: u32, then: u32 },
-    /// "toward zero at most n until cut".
+    /// "toward zero at most n until cut", with E2's 400 more.
     Toward { left: u32 },
 }
 
@@ -335,12 +342,13 @@ impl Unit {
     }
 
     /// `Z n`: "If cut, move away at most 10,000 until clear; then toward zero at
-    /// most n until cut".
+    /// most n until cut", which E2 makes n + 400.
     fn take_home(&mut self, limit: u32, sample: u8) -> Motion {
+        let toward = limit + EXTRA;
         if self.flag_is_cut(sample) {
-            self.wait_for_leg(Leg::Away { left: AWAY, then: limit })
+            self.wait_for_leg(Leg::Away { left: AWAY, then: toward })
         } else {
-            self.wait_for_leg(Leg::Toward { left: limit })
+            self.wait_for_leg(Leg::Toward { left: toward })
         }
     }
 

@@ -41,8 +41,8 @@ fn without_a_unit() {
         ("/1Q", "no unit"),
         ("start 0", "refused unit-number"),
         ("unit", "no unit"),
-        ("feed zz", "?"),
-        ("turn 256 0 0", "?"),
+        ("feed zz", "? not a hex digit"),
+        ("turn 256 0 0", "? a number is too great"),
     ]);
 }
 
@@ -135,6 +135,85 @@ fn calls_without_a_unit() {
 }
 
 #[test]
+fn the_answer_buffer() {
+    let blank = |count: usize| format!("buffer {}", "a5".repeat(count));
+    check(&[
+        ("buffer", &blank(262)),
+        ("room 8", "room 8"),
+        ("write - R A 7", "wrote 413752"),
+        ("buffer", "buffer 413752a5a5a5a5a5"),
+        ("write - R A 12345678", "refused buffer"),
+        ("write - R L 0", "refused 3"),
+        ("buffer", "buffer 413752a5a5a5a5a5"),
+        ("room 4", "room 4"),
+        ("buffer", &blank(4)),
+        ("room 0", "room 0"),
+        ("buffer", "buffer -"),
+        ("room 262", "room 262"),
+        ("start 1", "started"),
+        ("/1Q", "idle 0"),
+        ("buffer", &format!("buffer 2f3060030d0a{}", "a5".repeat(256))),
+    ]);
+}
+
+#[test]
+fn runs() {
+    check(&[
+        ("run 15 1", "no unit"),
+        ("start 1", "started"),
+        ("run 15 1", "ran 0 idle 0"),
+        ("run 16 1", "refused sample"),
+        ("/1gP5gD1G2G3R", "busy 0"),
+        ("run 15 1", "ran 32 idle 0"),
+        ("/1?0", "idle 0 9"),
+        ("/1gG1200R", "busy 0"),
+        ("run 15 1", "ran 1202 idle 0"),
+        ("/1H02P1R", "busy 0"),
+        ("run 15 1", "ran 1 waits"),
+        ("run 15 1", "ran 0 waits"),
+        ("run 13 1", "ran 4 idle 0"),
+        ("/1gG0R", "busy 0"),
+        ("run 15 1", "ran 100000 busy"),
+        ("image -", "image 0"),
+        ("run 16 1", "refused image-length"),
+        ("run 15", "? a field is missing"),
+        ("run 15 1 0", "? a field too many"),
+    ]);
+}
+
+#[test]
+fn a_timeline() {
+    let script = ["start 1", "/1F1M2P3Z4R", "timeline 15 1"];
+    let told = "\
+turn 1: at 1 F1, position 0, wait none, act none
+turn 2: at 3 M2, position 0, wait delay 2, act none
+turn 3: at 5 -, position 0, wait delay 1, act none
+turn 4: at 5 -, position 0, wait none, act none
+turn 5: at 5 P3, position 0, wait move 3, act down 3
+turn 6: at 7 -, position 3, wait none, act none
+turn 7: at 7 Z4, position 3, wait away 10000, act down 10000
+turn 8: at 9 -, position 3?, wait none, act none
+ran 8 idle 1";
+    assert_eq!(answers(&script)[2], told);
+    let script = ["start 1", "/1P0D0H14R", "timeline 15 1", "timeline 7 1", "/1T", "/1H14R", "timeline 7 1"];
+    let found = answers(&script);
+    assert_eq!(
+        found[2].lines().next(),
+        Some("turn 1: at 1 P0, position 0, wait endless 2147483647, act up 2147483647")
+    );
+    assert!(found[2].ends_with("\nran 2 idle 11"));
+    assert_eq!(found[6], "turn 1: at 1 H14, position 2147483647, wait input 14, act none\nran 1 waits");
+}
+
+#[test]
+fn help() {
+    let lines = answers(&["help"]).concat();
+    assert_eq!(lines.lines().count(), 19);
+    assert!(lines.lines().all(|line| line.contains(" : ")));
+}
+
+#[test]
 fn line_ends() {
-    assert_eq!(answers(&["start 1\r", "unit\r\r", "\r", ""]), ["started", "?", "?", "?"]);
+    const NO_SUCH: &str = "? no such operation";
+    assert_eq!(answers(&["start 1\r", "unit\r\r", "\r", ""]), ["started", NO_SUCH, NO_SUCH, NO_SUCH]);
 }

@@ -28,7 +28,7 @@ fn a_broken_model_is_found_and_the_script_is_short() {
     let lines: Vec<&str> = text.lines().collect();
     assert!(text.contains("        model:   act down 10000\n        program: act up 10000\n"), "{text}");
     assert!(lines[lines.len() - 1].ends_with(" passed, 1 failed"), "{text}");
-    let count: usize = lines[1].split(' ').nth(3).unwrap().parse().unwrap();
+    let count: usize = lines[2].split(' ').nth(3).unwrap().parse().unwrap();
     assert!(count <= 15, "{text}");
 }
 
@@ -45,6 +45,24 @@ fn words_for_the_program() {
     let output = compare(&["env", "1", "10", "MODEL_BROKEN=1", env!("CARGO_BIN_EXE_model")], false);
     let text = String::from_utf8(output.stdout).unwrap();
     assert!(text.contains("\n10 passed, "), "{text}");
+}
+
+#[test]
+fn a_status_that_is_not_0() {
+    let script = format!("{}; exit 3", env!("CARGO_BIN_EXE_model"));
+    let output = compare(&["sh", "1", "10", "-c", &script], false);
+    let text = String::from_utf8(output.stdout).unwrap();
+    assert_eq!(output.status.code(), Some(1), "{text}");
+    assert!(text.starts_with("seed 1\ndisagreement at operation 10 (seed 1)\n"), "{text}");
+    assert!(text.contains("program, too: (exit status: 3)"), "{text}");
+}
+
+#[test]
+fn words_behind_a_question_mark() {
+    let script = format!("{} | sed 's/^? .*/? for another reason/'", env!("CARGO_BIN_EXE_model"));
+    let output = compare(&["sh", "1", "2000", "-c", &script], false);
+    let text = String::from_utf8(output.stdout).unwrap();
+    assert!(text.contains("\n2000 passed, "), "{text}");
 }
 
 #[test]

@@ -128,10 +128,10 @@ fn endless_moves_to_the_end_of_the_range() {
 fn homing_from_clear() {
     let mut rig = Rig::running("z100Z50P1");
     assert_eq!(rig.turn(0, 0, 0), Rest);
-    assert_eq!(rig.turn(0, 0, 0), Down(50));
-    assert_eq!(rig.turn(0, 0, 20), Down(30));
+    assert_eq!(rig.turn(0, 0, 0), Down(450));
+    assert_eq!(rig.turn(0, 0, 20), Down(430));
     assert_eq!(rig.position(), 100);
-    assert_eq!(rig.turn(4, 0, 30), Rest, "the level wins over a leg used up");
+    assert_eq!(rig.turn(4, 0, 430), Rest, "the level wins over a leg used up");
     assert_eq!(rig.position(), 0);
     assert_eq!(rig.turn(0, 0, 0), Up(1));
 }
@@ -142,8 +142,8 @@ fn homing_from_cut() {
     assert_eq!(rig.step(0), Rest);
     assert_eq!(rig.step(0), Up(10_000));
     assert_eq!(rig.step(1), Up(9_999));
-    assert_eq!(rig.turn(0, 0, 9_999), Down(50), "the next leg in the same turn");
-    assert_eq!(rig.turn(0, 0, 0), Down(50));
+    assert_eq!(rig.turn(0, 0, 9_999), Down(450), "the next leg in the same turn");
+    assert_eq!(rig.turn(0, 0, 0), Down(450));
     assert_eq!(rig.turn(4, 0, 10), Rest);
     assert_eq!(rig.position(), 0);
 }
@@ -152,8 +152,9 @@ fn homing_from_cut() {
 fn homing_that_fails() {
     let mut rig = Rig::running("z7Z3");
     assert_eq!(rig.turn(0, 0, 0), Rest);
-    assert_eq!(rig.turn(0, 0, 0), Down(3));
-    assert_eq!(rig.turn(0, 0, 3), Rest);
+    assert_eq!(rig.turn(0, 0, 0), Down(403));
+    assert_eq!(rig.turn(0, 0, 402), Down(1));
+    assert_eq!(rig.turn(0, 0, 1), Rest);
     assert_eq!((rig.unit.code(), rig.lost()), (Code::NotFound, 7));
     for line in ["A7R", "A5R", "P1R", "P0R", "D9R", "D0R"] {
         assert_eq!(rig.status(line), 0x40);
@@ -170,25 +171,33 @@ fn homing_that_fails() {
     assert_eq!(rig.step(10_000), Rest);
     assert_eq!((rig.unit.code(), rig.lost()), (Code::NotFound, 0));
     assert_eq!(rig.status("Z1R"), 0x40);
-    assert_eq!(rig.turn(0, 0, 0), Down(1));
+    assert_eq!(rig.turn(0, 0, 0), Down(401));
     assert_eq!(rig.lost(), 0);
     assert_eq!(rig.turn(4, 0, 0), Rest);
     assert_eq!(rig.position(), 0);
 }
 
 #[test]
-fn homing_with_no_way_to_go() {
+fn homing_by_400_at_least() {
     let mut rig = Rig::running("Z0");
-    assert_eq!(rig.turn(0, 0, 0), Rest);
-    assert!(rig.unit.is_running());
-    assert_eq!(rig.turn(0, 0, 0), Rest);
+    assert_eq!(rig.turn(0, 0, 0), Down(400));
+    assert_eq!(rig.turn(0, 0, 400), Rest);
     assert_eq!(rig.unit.code(), Code::NotFound);
     let mut rig = Rig::running("Z0");
     assert_eq!(rig.turn(4, 0, 0), Up(10_000));
-    assert_eq!(rig.turn(0, 0, 5), Rest);
-    assert_eq!(rig.turn(4, 0, 0), Rest);
+    assert_eq!(rig.turn(0, 0, 5), Down(400));
+    assert_eq!(rig.turn(4, 0, 400), Rest, "found with the last step");
     assert_eq!(rig.position(), 0);
     assert!(rig.unit.is_running());
+}
+
+#[test]
+fn homing_by_the_greatest_number() {
+    let mut rig = Rig::running("Z2147483647");
+    assert_eq!(rig.turn(0, 0, 0), Down(2_147_484_047));
+    assert_eq!(rig.refused(0, 0, 2_147_484_048), TurnRefusal::Steps);
+    assert_eq!(rig.turn(0, 0, 2_147_484_047), Rest);
+    assert_eq!(rig.unit.code(), Code::NotFound);
 }
 
 #[test]
@@ -198,7 +207,7 @@ fn the_flag_turned_and_the_direction_turned() {
         rig.turn(0, 0, 0);
     }
     assert_eq!(rig.turn(0, 0, 0), Down(10_000));
-    assert_eq!(rig.turn(4, 0, 1), Up(9));
+    assert_eq!(rig.turn(4, 0, 1), Up(409));
     assert_eq!(rig.turn(0, 0, 1), Rest);
     assert_eq!(rig.position(), 0);
     assert_eq!(rig.turn(0, 0, 0), Down(2));
@@ -213,11 +222,11 @@ fn the_flag_turned_and_the_direction_turned() {
 fn stop_during_homing() {
     let mut rig = Rig::running("z5Z9");
     rig.turn(0, 0, 0);
-    assert_eq!(rig.turn(0, 0, 0), Down(9));
+    assert_eq!(rig.turn(0, 0, 0), Down(409));
     assert_eq!(rig.status("T"), 0x60);
     assert_eq!(rig.lost(), 5);
-    assert_eq!(rig.refused(0, 0, 10), TurnRefusal::Steps);
-    assert_eq!(rig.turn(0, 0, 9), Rest);
+    assert_eq!(rig.refused(0, 0, 410), TurnRefusal::Steps);
+    assert_eq!(rig.turn(0, 0, 409), Rest);
     assert_eq!(rig.lost(), 5);
 }
 

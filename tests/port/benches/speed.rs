@@ -6,8 +6,9 @@
 //! less the time of a run that repeats nothing. A ratio above its target is marked.
 //!
 //! `speed` prints times, `speed counts [MODEL]` instructions: by valgrind, and on a processor other than x86-64 by the emulator;
-//! there MODEL is this program built for x86-64, without which our programs alone are counted. `speed pace` and
-//! `speed repeat TIMES` are the model's sides, which the others start.
+//! there MODEL is this program built for x86-64, without which our programs alone are counted. `speed bounds` holds the
+//! instructions of feed and turn to their bounds and, where the model is counted too, to their targets, and ends with
+//! 'N passed, M failed'. `speed pace` and `speed repeat TIMES` are the model's sides, which the others start.
 
 use std::env;
 use std::hint::black_box;
@@ -17,20 +18,35 @@ use std::time::{Duration, Instant};
 
 use calls::Call as PortCall;
 use drive_model::image;
-use drive_model::pace::{self, Call, Mode};
+use drive_model::pace::{self, Mode};
 use drive_model::random::{Lines, Random};
 
 const ON: &str = concat!(env!("CARGO_MANIFEST_DIR"), "/../on-x86-64");
-const PACE: &str = concat!(env!("CARGO_MANIFEST_DIR"), "/../../target/bin/pace");
+const PACE_PROGRAM: &str = concat!(env!("CARGO_MANIFEST_DIR"), "/../../target/bin/pace");
 const CALLS: &str = concat!(env!("CARGO_MANIFEST_DIR"), "/../../target/calls");
 
 /// Whether our programs run on this processor itself.
 const HERE: bool = cfg!(target_arch = "x86_64");
 
-/// At most so many times the model: at 16 bytes a call and more, the checks, the ramp.
-const NEAR: f64 = 1.5;
-/// A byte a call, and a turn: the unit's record goes in and out by value.
-const FAR: f64 = 4.0;
+/// The checks and the ramp: at most so many times the model, in time and in instructions.
+const CHECKS: [f64; 2] = [1.5, 1.5];
+
+/// Feed and turn: at most so many times the model in time and in instructions, and the most instructions of ours that the gate
+/// lets pass, so that a lost shape is seen at once. A number of ten digits is written without a division, which the model makes.
+const PACE: [(&str, [f64; 2], f64); 12] = [
+    ("feed, short frames, 1 byte a call", [1.4, 1.1], 140.0),
+    ("feed, short frames, 16 bytes a call", [1.1, 1.05], 74.0),
+    ("feed, short frames, 256 bytes a call", [1.1, 1.05], 73.0),
+    ("feed, 200-byte bodies, 1 byte a call", [1.4, 1.1], 138.0),
+    ("feed, 200-byte bodies, 16 bytes a call", [1.1, 1.05], 70.0),
+    ("feed, 200-byte bodies, 256 bytes a call", [1.1, 1.05], 66.0),
+    ("feed, ten-digit answers, 1 byte a call", [2.0, 1.75], 265.0),
+    ("feed, ten-digit answers, a frame a call", [2.5, 2.1], 207.0),
+    ("turn, idle", [1.3, 1.15], 34.0),
+    ("turn, in a move", [1.3, 1.15], 110.0),
+    ("turn, a command taken", [2.4, 2.3], 225.0),
+    ("turn, a jump", [1.5, 1.5], 2170.0),
+];
 
 const ROUNDS: usize = 15;
 /// How long a run is meant to take.
@@ -45,13 +61,13 @@ fn main() {
             eprintln!("speed: the programs are for x86-64, and times under an emulator say nothing; `-- counts` counts their instructions");
             exit(1)
         }
-        [] => table("nanoseconds", time),
-        ["counts"] if HERE => table("instructions", |row| [0, 1].map(|side| Some(count(row, side, &this(), valgrind_count)))),
-        ["counts"] => table("instructions", |row| [Some(count(row, 0, &this(), emulator_count)), None]),
-        ["counts", model] => table("instructions", |row| [0, 1].map(|side| Some(count(row, side, model, emulator_count)))),
+        [] => table("nanoseconds", 0, time),
+        ["counts"] => table("instructions", 1, counts),
+        ["counts", model] => table("instructions", 1, |row| [0, 1].map(|side| Some(count(row, side, model, emulator_count)))),
+        ["bounds"] => bounds(),
         ["pace"] => println!("{}", pace::digest(&input()).expect("what `pace` reads")),
         ["repeat", times] => println!("{}", repeat(&input(), times.parse().expect("a number"))),
-        _ => panic!("speed [counts [MODEL]]"),
+        _ => panic!("speed [counts [MODEL] | bounds]"),
     }
 }
 
@@ -64,15 +80,42 @@ fn this() -> String {
 /// What an item costs ours and the model; none where that cannot be told.
 type Costs = [Option<f64>; 2];
 
-fn table(unit: &str, costs: impl Fn(&Row) -> Costs) {
+fn table(unit: &str, which: usize, costs: impl Fn(&Row) -> Costs) {
     println!("{:<44}{:>9}{:>9}{:>8}{:>8}", format!("{unit} a byte, turn, check or ramp"), "ours", "model", "ratio", "target");
     for row in rows() {
         let [ours, model] = costs(&row);
         let ratio = ours.zip(model).map(|(ours, model)| ours / model);
         let [ours, model, shown] = [ours, model, ratio].map(|cost| cost.map_or("-".to_string(), |cost| format!("{cost:.2}")));
-        let missed = ratio.is_some_and(|ratio| ratio > row.target);
-        println!("{:<44}{ours:>9}{model:>9}{shown:>8}{:>8.1}{}", row.name, row.target, if missed { "  missed" } else { "" });
+        let missed = ratio.is_some_and(|ratio| ratio > row.targets[which]);
+        println!("{:<44}{ours:>9}{model:>9}{shown:>8}{:>8}{}", row.name, row.targets[which], if missed { "  missed" } else { "" });
     }
+}
+
+/// Feed and turn in instructions, held to their bounds and targets.
+fn bounds() {
+    let mut failed = 0;
+    let mut passed = 0;
+    for row in pace::MODES.into_iter().map(pace_row) {
+        let [ours, model] = counts(&row);
+        let ours = ours.expect("a count");
+        let held = [Some((ours, row.bound)), model.map(|model| (ours / model, row.targets[1]))];
+        for (found, most) in held.into_iter().flatten() {
+            let holds = found <= most;
+            passed += usize::from(holds);
+            failed += usize::from(!holds);
+            println!("{:<44}{found:>9.2} of {most}{}", row.name, if holds { "" } else { "  NOT HELD" });
+        }
+    }
+    println!("{passed} passed, {failed} failed");
+    exit(i32::from(failed > 0))
+}
+
+/// What an item costs in instructions.
+fn counts(row: &Row) -> Costs {
+    if HERE {
+        return [0, 1].map(|side| Some(count(row, side, &this(), valgrind_count)));
+    }
+    [Some(count(row, 0, &this(), emulator_count)), None]
 }
 
 /// The same work by ours and by the model.
@@ -80,7 +123,10 @@ struct Row {
     name: &'static str,
     /// Bytes, turns, checks or ramps of one time.
     items: usize,
-    target: f64,
+    /// At most so many times the model, in time and in instructions.
+    targets: [f64; 2],
+    /// The most instructions of ours.
+    bound: f64,
     work: Work,
 }
 
@@ -95,7 +141,7 @@ impl Row {
     /// What is started, and its input; the model's side is the program `model`.
     fn run(&self, side: usize, model: &str, times: u32) -> (Vec<String>, Vec<u8>) {
         match &self.work {
-            Work::Pace(mode) => ([vec![PACE.into()], vec![model.into(), "pace".into()]][side].clone(), mode.input(times)),
+            Work::Pace(mode) => ([vec![PACE_PROGRAM.into()], vec![model.into(), "pace".into()]][side].clone(), mode.input(times)),
             Work::Calls(input) => (vec![[CALLS, model][side].into(), "repeat".into(), times.to_string()], input.clone()),
         }
     }
@@ -191,8 +237,8 @@ fn rows() -> Vec<Row> {
 }
 
 fn pace_row(mode: Mode) -> Row {
-    let near = matches!(mode.call, Call::Feed(most) if most >= 16);
-    Row { name: mode.name, items: mode.items(), target: if near { NEAR } else { FAR }, work: Work::Pace(mode) }
+    let (name, targets, bound) = PACE.into_iter().find(|row| row.0 == mode.name).expect("a row of its own");
+    Row { name, items: mode.items(), targets, bound, work: Work::Pace(mode) }
 }
 
 fn calls_row(name: &'static str, calls: impl IntoIterator<Item = PortCall>) -> Row {
@@ -201,7 +247,7 @@ fn calls_row(name: &'static str, calls: impl IntoIterator<Item = PortCall>) -> R
         call.write(&mut input);
         items += 1;
     }
-    Row { name, items, target: NEAR, work: Work::Calls(input) }
+    Row { name, items, targets: CHECKS, bound: f64::MAX, work: Work::Calls(input) }
 }
 
 fn calls_rows() -> [Row; 10] {

@@ -10,12 +10,12 @@ returns c = sym (read-end _ _ (c .if1 .taken))
 
 returns-2 : tie.Need-returns-2
 returns-2 c =
-    rw (c .command-of .ensures)
+    rw (c .numbered .ensures, c .before .before .before .before .before .row-of .ensures .commands _)
     (read-fitted
     _
     _
     (c .before .before .before .before .before .before .before .if1 .left)
-    (c .before .before .before .before .before .asks-of .ensures)
+    (c .before .before .before .before .before .row-of .ensures .asks-so)
     (c .before .before .before .before .fit-at .ensures)
     (c .before .before .fitted .given .1))
 
@@ -25,7 +25,7 @@ returns-3 c =
     _
     _
     (c .before .before .before .before .before .before .if1 .left)
-    (c .before .before .before .before .asks-of .ensures)
+    (c .before .before .before .before .row-of .ensures .asks-so)
     (c .before .before .before .fit-at .ensures)
     (c .before .fitted2 .given .1)
 

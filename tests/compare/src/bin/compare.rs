@@ -2,8 +2,11 @@
 //! model on the same random scripts and compares every line of answer. The
 //! words are given to the program.
 //!
-//! A disagreement is shrunk and printed. At the end stand the counts of each
-//! kind of answer and event; one that did not occur is a failure.
+//! A disagreement is shrunk and printed (with `COMPARE_PLAIN` in the
+//! environment only its place is). At the end stand the counts of each kind of
+//! answer and event; one that did not occur is a failure. Of what stands behind
+//! `?` nothing is compared, and a program that ends with another status than 0
+//! disagrees.
 
 use std::ffi::OsString;
 use std::io::{Read, Write};
@@ -46,6 +49,7 @@ fn main() -> ExitCode {
         eprintln!("usage: compare PROGRAM [SEED] [OPERATIONS] [WORD..]");
         return ExitCode::from(2);
     };
+    println!("seed {}", wanted.seed);
     let mut counts = Counts::new();
     let mut passed = 0;
     let sizes = (0..wanted.operations).step_by(ROUND).map(|begin| ROUND.min(wanted.operations - begin));
@@ -54,7 +58,9 @@ fn main() -> ExitCode {
     for (steps, place) in rounds.chunks(together).flat_map(|some| play(&wanted, some)) {
         if let Some(place) = place {
             println!("disagreement at operation {} (seed {})", passed + place + 1, wanted.seed);
-            show(&wanted.program, &steps[..=place]);
+            if std::env::var_os("COMPARE_PLAIN").is_none() {
+                show(&wanted.program, &steps[..=place]);
+            }
             println!("{} passed, 1 failed", passed + place);
             return ExitCode::FAILURE;
         }
@@ -149,12 +155,16 @@ fn show(program: &Program, steps: &[Step]) {
     let operations: Vec<&[u8]> = script.iter().map(Vec::as_slice).collect();
     let output = run(program, &operations, SHORT_PATIENCE);
     let theirs = lines(&output);
+    let mut rest = &theirs[..];
     println!("the script has {} operations:", script.len());
-    for (place, operation) in script.iter().enumerate() {
+    for (operation, ours) in script.iter().zip(&ours) {
         println!("    {}", operation.escape_ascii());
-        show_answers(&ours[place], theirs.get(place).copied());
+        for line in lines(ours) {
+            show_answers(line, rest.first().copied());
+            rest = rest.get(1..).unwrap_or_default();
+        }
     }
-    for line in theirs.iter().skip(script.len()) {
+    for line in rest {
         println!("        program, too: {}", line.escape_ascii());
     }
 }
@@ -167,8 +177,8 @@ fn show_answers(ours: &[u8], theirs: Option<&[u8]>) {
         println!("        program: (no answer)");
         return;
     };
-    if ours == theirs {
-        println!("        both:    {}", excerpt(ours, 0));
+    if agree(ours, theirs) {
+        println!("        both:    {}", excerpt(theirs, 0));
         return;
     }
     let same = ours.iter().zip(theirs).take_while(|(ours, theirs)| ours == theirs).count();
@@ -201,12 +211,27 @@ fn answers(script: &[Vec<u8>]) -> Script {
 /// The first place where the answers are not the same; lines too many count
 /// for the last place.
 fn first_difference(expected: &[&[u8]], found: &[&[u8]]) -> Option<usize> {
-    let differs = |place: &usize| found.get(*place) != Some(&expected[*place]);
-    let more = (found.len() > expected.len()).then(|| expected.len().checked_sub(1)).flatten();
-    (0..expected.len()).find(differs).or(more)
+    let mut rest = found;
+    for (place, answer) in expected.iter().enumerate() {
+        let ours = lines(answer);
+        let Some((theirs, after)) = rest.split_at_checked(ours.len()) else {
+            return Some(place);
+        };
+        if !ours.iter().zip(theirs).all(|(ours, theirs)| agree(ours, theirs)) {
+            return Some(place);
+        }
+        rest = after;
+    }
+    (!rest.is_empty()).then(|| expected.len().checked_sub(1)).flatten()
 }
 
-/// The lines of an output.
+/// Whether two lines of answer are the same, but for what stands behind `?`.
+fn agree(ours: &[u8], theirs: &[u8]) -> bool {
+    let unreadable = |line: &[u8]| line == b"?" || line.starts_with(b"? ");
+    ours == theirs || (unreadable(ours) && unreadable(theirs))
+}
+
+/// The lines of an answer or of an output; nothing has none.
 fn lines(output: &[u8]) -> Vec<&[u8]> {
     let mut lines: Vec<&[u8]> = output.split(|&byte| byte == b'\n').collect();
     if lines.last().is_some_and(|last| last.is_empty()) {
@@ -216,7 +241,8 @@ fn lines(output: &[u8]) -> Vec<&[u8]> {
 }
 
 /// What the program writes for these operations. One that takes too long is
-/// ended, and a line says so after what it wrote.
+/// ended; of that, and of a status that is not 0, a line tells after what it
+/// wrote.
 fn run(program: &Program, operations: &[&[u8]], patience: Duration) -> Vec<u8> {
     let mut command = Command::new(&program.name);
     command.args(&program.words).stdin(Stdio::piped()).stdout(Stdio::piped()).stderr(Stdio::null());
@@ -235,11 +261,20 @@ fn run(program: &Program, operations: &[&[u8]], patience: Duration) -> Vec<u8> {
         let _ = stdout.map(|mut stdout| stdout.read_to_end(&mut output));
         let _ = sender.send(output);
     });
-    let output = receiver.recv_timeout(patience).unwrap_or_else(|_| {
-        let _ = child.kill();
-        let written = receiver.recv().unwrap_or_default();
-        [&written[..], b"\n(does not end)\n"].concat()
-    });
-    let _ = (writer.join(), reader.join(), child.wait());
+    let (mut output, in_time) = match receiver.recv_timeout(patience) {
+        Ok(output) => (output, true),
+        Err(_) => {
+            let _ = child.kill();
+            (receiver.recv().unwrap_or_default(), false)
+        }
+    };
+    let _ = (writer.join(), reader.join());
+    let status = child.wait();
+    match status {
+        _ if !in_time => output.extend(b"\n(does not end)\n"),
+        Ok(status) if status.success() => {}
+        Ok(status) => output.extend(format!("({status})\n").as_bytes()),
+        Err(error) => output.extend(format!("({error})\n").as_bytes()),
+    }
     output
 }

@@ -1,9 +1,11 @@
 //! Random scripts in the bench's language, the same for the same seed.
 
 mod lines;
+mod rare;
 mod script;
 
 pub use lines::Lines;
+pub use rare::Rare;
 pub use script::{Round, Step};
 
 /// A small generator of random numbers (splitmix64).

@@ -3,11 +3,11 @@
 use std::collections::VecDeque;
 
 use crate::address::{reach, Reach};
-use crate::bench::{write_hex, Bench, LONGEST_IMAGE};
+use crate::bench::{with_hex, Bench, LONGEST_IMAGE};
 use crate::image::{self, IMAGE};
 use crate::kinds::{self, Glance};
 use crate::packet::PACKET;
-use crate::random::{Lines, Random};
+use crate::random::{Lines, Random, Rare};
 use crate::turn::{Leg, Wait};
 use crate::unit::Unit;
 
@@ -36,6 +36,25 @@ const UNREADABLE: &[&str] = &[
     "room x",
     "room -",
     "room 4294967297",
+    "buffer 1",
+    "buffer ",
+    "help me",
+    "help ",
+    "Help",
+    "run",
+    "run 15",
+    "run 15 1 0",
+    "run 256 1",
+    "run 15 4294967296",
+    "run x 1",
+    "run 15  1",
+    "run 15 1 ",
+    "timeline",
+    "timeline 15",
+    "timeline 15 1 0",
+    "timeline 256 1",
+    "timeline 15 4294967296",
+    "timeline 15 -",
     "image",
     "image 4",
     "image 0g",
@@ -108,6 +127,9 @@ const UNREADABLE: &[&str] = &[
     "write - R A 1 ",
     "write - R A 1 g",
     "write - R T -",
+    "write - R p 5",
+    "write - R & -",
+    "write - R & 1",
     "write - RR",
     "read",
     "read 2",
@@ -161,6 +183,9 @@ enum Choice {
     Room,
     Start,
     Store,
+    Buffer,
+    Run,
+    Rare,
     Unreadable,
 }
 
@@ -175,6 +200,9 @@ const BESIDE: &[(u64, Choice)] = &[
     (4, Choice::Room),
     (4, Choice::Start),
     (3, Choice::Store),
+    (3, Choice::Buffer),
+    (8, Choice::Run),
+    (8, Choice::Rare),
     (13, Choice::Unreadable),
 ];
 
@@ -289,6 +317,9 @@ impl Round {
             Choice::Room => self.room(),
             Choice::Start => self.start(),
             Choice::Store => b"store".to_vec(),
+            Choice::Buffer => b"buffer".to_vec(),
+            Choice::Run => self.run(),
+            Choice::Rare => self.rare(),
             Choice::Unreadable => self.unreadable(),
         }
     }
@@ -333,6 +364,42 @@ impl Round {
         format!("turn {sample} {elapsed} {steps}").into_bytes()
     }
 
+    /// `run`, or `timeline` where the turns are few. One that would make very
+    /// many turns is a single turn mostly.
+    fn run(&mut self) -> Vec<u8> {
+        const FEW: u32 = 300;
+        const MANY: u32 = 3000;
+        let sample = if self.random.chance(5) { 16 + self.random.below(240) } else { self.random.below(16) };
+        let elapsed = self.random.pick(&[0, 1, 1, 10, 1000, 4_294_967_295]);
+        let made = self.bench.unit().map(|unit| {
+            let course = unit.clone().course(self.bench.image(), sample as u8, elapsed, None);
+            course.map_or(0, |(turns, _)| turns)
+        });
+        let word = match made.unwrap_or(0) {
+            FEW..MANY => "run",
+            MANY.. if self.random.chance(97) => return self.turn(),
+            MANY.. => "run",
+            _ => self.random.pick(&["run", "timeline"]),
+        };
+        format!("{word} {sample} {elapsed}").into_bytes()
+    }
+
+    /// A script of what is rare, once the unit can take frames.
+    fn rare(&mut self) -> Vec<u8> {
+        self.queue.push_back(format!("room {PACKET}").into_bytes());
+        if self.bench.image().len() != IMAGE {
+            self.queue.push_back(b"image empty".to_vec());
+        }
+        if self.random.chance(20) {
+            self.queue.push_back(self.start_number());
+        }
+        self.queue.push_back(with_hex("feed", &[b'/', 0x30 + self.number, b'T', b'\r']));
+        let number = self.number;
+        let script = Rare { lines: self.lines(), number }.script();
+        self.queue.extend(script);
+        self.queue.pop_front().unwrap_or_default()
+    }
+
     /// A frame with what comes before and after it, fed at once or in parts,
     /// or typed.
     fn frame(&mut self) -> Vec<u8> {
@@ -340,6 +407,9 @@ impl Round {
         let body = self.frame_body();
         if (body.starts_with(b"s") || body == b"?9") && self.random.chance(15) {
             self.queue.push_back(b"store".to_vec());
+        }
+        if self.random.chance(3) {
+            self.queue.push_back(b"buffer".to_vec());
         }
         if self.random.chance(12) {
             return typed(address, &body, &mut self.random);
@@ -695,12 +765,6 @@ fn typed(address: u8, body: &[u8], random: &mut Random) -> Vec<u8> {
     line
 }
 
-fn with_hex(word: &str, bytes: &[u8]) -> Vec<u8> {
-    let mut operation = format!("{word} ").into_bytes();
-    write_hex(bytes, &mut operation);
-    operation
-}
-
 #[cfg(test)]
 mod tests {
     use super::*;
@@ -740,7 +804,7 @@ mod tests {
         for line in UNREADABLE {
             let mut answer = Vec::new();
             Bench::new().answer(line.as_bytes(), &mut answer);
-            assert_eq!(answer, b"?", "{line}");
+            assert!(answer.starts_with(b"? "), "{line}");
         }
     }
 }
