@@ -118,19 +118,19 @@ pub fn write_packet(buffer: &mut [u8], status: u8, data: &[u8]) -> Written
 pub fn write_oem_packet(buffer: &mut [u8], status: u8, data: &[u8]) -> Written
     ensures { λ r. ⌜ OemPacketIs (now (buffer .entry)) status (now («data» .entry)) r (now (buffer .exit)) ⌝ }
 {
-    let n = data.len();
-    if MOST_DATA < n {
+    let count = data.len();
+    if MOST_DATA < count {
         return Written::NoRoom;
     }
-    if buffer.len() < AROUND_OEM + n {
+    if buffer.len() < AROUND_OEM + count {
         return Written::NoRoom;
     }
     let head = [START_OF_TEXT, HOST_ADDRESS, status];
-    let tail = [END_OF_TEXT, oem_sum(status, data)];
+    let end = [END_OF_TEXT, oem_sum(status, data)];
     parts::put_at(buffer, 0, &head);
     parts::put_at(buffer, DATA_AT, data);
-    parts::put_at(buffer, DATA_AT + n, &tail);
-    Written::Past(AROUND_OEM + n)
+    parts::put_at(buffer, DATA_AT + count, &end);
+    Written::Past(AROUND_OEM + count)
 }
 
 // The checksum of an OEM packet.
