@@ -9,7 +9,7 @@ use lib.ListN.{length, drop}
 use lib.Dec.{ltb}
 use borrow.Author.Tests.{lt-ltb, le-ltb}
 use Rattle.parts.specs.Parts.{putIn}
-use Rattle.parts.proofs.Laws.{put-front, put-in-room}
+use Rattle.parts.proofs.Laws.{cases, put-front, put-in-room}
 use Rattle.image.specs.Calls.{checkedOf}
 use Rattle.image.specs.Image.{rightLength, slots, slotsGood}
 use Rattle.frames.specs.declared.Frame.{Frame}
@@ -23,7 +23,7 @@ use Rattle.turns.specs.Turns.{turnCore}
 use Rattle.frames.specs.Addresses.{isUnit}
 use Rattle.drive.specs.Names.{startName, feedName, turnName}
 use Rattle.frames.specs.Receive.{bodyIn}
-use Rattle.drive.specs.Calls.{noUnit, freshUnit, starting, startOf, receivedBy, obeyedBy, answerTo, feedRefused, feedTaken, feedOf, mostSample, turnRefused, turnTaken, turnOf}
+use Rattle.drive.specs.Calls.{noUnit, freshUnit, Starting, starting, startOf, receivedBy, obeyedBy, answerTo, feedRefused, feedTaken, feedOf, mostSample, turnRefused, turnTaken, turnOf}
 use Rattle.drive.proofs.FeedLaws.{put-nothing}
 use Rattle.claims.specs.Demand1.{StartRow, ImageRow, FrameRefused, frameCode, refusalPacket, FeedRow, TurnRow}
 use Rattle.claims.proofs.OrderLaws.{order-row}
@@ -36,9 +36,15 @@ start-row number image body text = record {
   image-length = λ n l. rw (n, l);
   image-bad = λ n l g. rw (n, l, g);
   started = λ n l g. rw (n, l, g);
-  texts-same = (refl, refl);
+  texts-same = cases Left (isUnit number)
+      (λ a. cases Left (rightLength image) (λ b. cases Left (slotsGood image slots) (λ s n. absurd (n refl)) (λ s n. (refl, refl))) (λ b n. (refl, refl)))
+      (λ a n. (refl, refl));
 }
   where
+    -- what a refusal leaves
+    Left : Starting → Type 0
+    Left s = (s .answer ≡ StartAnswer.Started → ⊥) → (s .unit .receiver .body ≡ body) × (s .unit .text ≡ text)
+
     go : (a b d : Bool)
         → startName (cond a (cond b (cond d (starting StartAnswer.Started (freshUnit number image body)) (starting StartAnswer.ImageBad (noUnit body text))) (starting StartAnswer.ImageLength (noUnit body text))) (starting StartAnswer.UnitNumber (noUnit body text)) .answer)
         ≡ cond a (cond b (cond d "started" "bad image") "image not 4,160 bytes") "unit number not 1 to 16"

@@ -47,8 +47,9 @@ pub record StartRow (number : ℕ) (image body text : List ℕ) : Type 0 where
       → startOf number image body text ≡ starting StartAnswer.ImageBad (noUnit body text)
   pub started : isUnit number ≡ true → rightLength image ≡ true → slotsGood image slots ≡ true
       → startOf number image body text ≡ starting StartAnswer.Started (freshUnit number image body)
-  -- "no unit": the texts are as they were lent
-  pub texts-same : (noUnit body text .receiver .body ≡ body) × (noUnit body text .text ≡ text)
+  -- "no unit": a refused start leaves the texts as they were lent
+  pub texts-same : (startOf number image body text .answer ≡ StartAnswer.Started → ⊥)
+      → (startOf number image body text .unit .receiver .body ≡ body) × (startOf number image body text .unit .text ≡ text)
 
 -- a feed call whose frame is refused with a code: "packet with the code (none to a group); record beyond the receiver, and image, unchanged";
 -- "Answer bytes past the packet are unchanged; without an answer all are."

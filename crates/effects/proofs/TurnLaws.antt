@@ -1,5 +1,5 @@
 -- Each turn by itself: the command that stands at the place, or the wait, computes to a few fields of its definition. Assumes nothing.
-use Prim.Native.Nat.{ℕ, _^_, _-_, _≤_, _<_}
+use Prim.Native.Nat.{ℕ, _^_, _+_, _-_, _≤_, _<_, min}
 use mathlib.Core.Path.{_≡_, refl, sym, ap, subst, _∙_}
 use mathlib.Core.List.{List}
 use mathlib.Core.Bool.{Bool, true, false, cond, false≢true}
@@ -24,7 +24,7 @@ use Rattle.motor.specs.declared.Motor.{Motor}
 use Rattle.motor.specs.declared.Last.{Last}
 use Rattle.motor.specs.declared.Moved.{Moved}
 use Rattle.motor.specs.declared.Moved.the-variants.{Goes, Stops}
-use Rattle.motor.specs.Inputs.{levelThere, falls, cut, clear}
+use Rattle.motor.specs.Inputs.{high, levelThere, falls, cut, clear}
 use Rattle.motor.specs.Motion.{fresh, last, waiting, placedAt, actionOf, room, reported, finite, homed, movedOn, relative, absolute, delayed, held, delayOn, endlessOn, toward, awayOn, towardOn, isFree, stopped, served}
 use Rattle.turns.specs.declared.Core.{Core}
 use Rattle.turns.specs.declared.setting.Settings.{Settings}
@@ -52,7 +52,7 @@ use Rattle.runs.proofs.CallLaws.{feed-cases, turn-cases, turn-made}
 use Rattle.runs.proofs.CommandLaws.{turned}
 use Rattle.effects.specs.Bodies.{homing}
 use Rattle.effects.specs.Turns as effects
-use Rattle.effects.specs.Turns.{Defaults, SameRun, Letter, Homes, Keeps, Idles, Flowing, listed, Plainly, SetsOne, then, Takes, here, Leads, Sets, ATurn, aTurn, EachCommand, EachWait, Resting, Answers}
+use Rattle.effects.specs.Turns.{Defaults, SameRun, Letter, Keeps, Idles, Flowing, listed, Plainly, SetsOne, then, Takes, here, atFlag, Leads, Sets, ATurn, aTurn, EachCommand, EachWait, Resting, Answers}
 
 -- ---- a fresh start
 
@@ -290,22 +290,21 @@ module _ (u : Drive) (sample ms steps : ℕ) (image : List ℕ) (run : u .core .
       leads-to (Wait.Move false false (p - n)) _ true (waiting (Wait.Move false false (p - n)) now) (commandOf 65 n) next r
       (rw (k, ne-eqb n p (λ z. omega arith), lt-ltb n p l, le-leb (p - n) p (omega arith))) refl refl k refl
 
-  -- a leg begun
-  leg-begun : (w : Wait) (next : ℕ) → homing w ≡ true → Homes u (moving (waiting w now) next) sample (here t)
-  unfolding reported
-  leg-begun w next h = record {
-    leg = h;
-    plainly = record {
-      goes = record { runs = run; text-same = refl; loaded-same = refl; code-same = refl; waits = refl; position = refl; known = refl; keeps-sample = refl };
-      settings-same = refl;
-    };
-  }
+  -- the flag, in the words of `H` and `S`
+  flag-cut : (b : Bool) → atFlag t ≡ b → cut (u .core .settings .flag) sample ≡ b
+  unfolding cut high levelThere
+  flag-cut b e = e
 
-  homes : (n : ℕ) → Takes t 90 n → Homes u (then t) sample (here t)
-  unfolding commandTaken acted commandOf find table homed
-  homes n (next, r) =
-      subst (λ (v : Drive). Homes u v sample (here t)) (sym (turned u run sample ms steps image m (commandOf 90 n) next r))
-      (cases (λ (a : Motor). Homes u (moving a next) sample (here t)) (cut (u .core .settings .flag) (now .sample)) (λ q. leg-begun _ next refl) (λ q. leg-begun _ next refl))
+  homes-away : (n : ℕ) → Takes t 90 n → atFlag t ≡ true → Leads t (Wait.LegAway 10000 n) (here t) known
+  unfolding commandTaken acted commandOf find table reported homed
+  homes-away n (next, r) q =
+      leads-to (Wait.LegAway 10000 n) _ known (waiting (Wait.LegAway 10000 n) now) (commandOf 90 n) next r (rw (flag-cut true q)) refl refl refl refl
+
+  homes-toward : (n : ℕ) → n ≤ top → Takes t 90 n → atFlag t ≡ false → Leads t (Wait.LegToward (n + 400)) (here t) known
+  unfolding commandTaken acted commandOf find table reported homed
+  homes-toward n l (next, r) q =
+      let z : min n top ≡ n = omega arith in
+      leads-to (Wait.LegToward (n + 400)) _ known (waiting (Wait.LegToward (n + 400)) now) (commandOf 90 n) next r (rw (flag-cut false q, z)) refl refl refl refl
 
   -- a command that leads through the text, whether the run goes on or not
   abbrev Kept : Core → Type 0
@@ -368,7 +367,8 @@ module _ (u : Drive) (sample ms steps : ℕ) (image : List ℕ) (run : u .core .
     down = down;
     to-above = to-above;
     to-below = to-below;
-    homes = homes;
+    homes-away = homes-away;
+    homes-toward = homes-toward;
     flows = flows;
   }
 
@@ -424,6 +424,26 @@ module _ (u : Drive) (sample ms steps : ℕ) (image : List ℕ) (run : u .core .
   edge : (up : Bool) (left : ℕ) → u .core .motor .wait ≡ Wait.Move up true left → falls (u .core .motor .sample) sample ≡ true → Leads t Wait.Nothing (here t) known
   unfolding served endlessOn reported
   edge up left e l = goes-to (Wait.Move up true left) _ _ known (waiting Wait.Nothing now) e refl (rw l) refl refl refl refl
+
+  away-on : (left n : ℕ) → u .core .motor .wait ≡ Wait.LegAway left n → atFlag t ≡ true → steps < left → Leads t (Wait.LegAway (left - steps) n) (here t) known
+  unfolding served awayOn reported
+  away-on left n e q l =
+      goes-to (Wait.LegAway left n) _ _ known (waiting (Wait.LegAway (left - steps) n) now) e refl (rw (flag-cut true q, lt-leb left steps l)) refl refl refl refl
+
+  away-clear : (left n : ℕ) → n ≤ top → u .core .motor .wait ≡ Wait.LegAway left n → atFlag t ≡ false → Leads t (Wait.LegToward (n + 400)) (here t) known
+  unfolding served awayOn reported
+  away-clear left n l e q =
+      let z : min n top ≡ n = omega arith in
+      goes-to (Wait.LegAway left n) _ _ known (waiting (Wait.LegToward (n + 400)) now) e refl (rw (flag-cut false q, z)) refl refl refl refl
+
+  toward-on : (left : ℕ) → u .core .motor .wait ≡ Wait.LegToward left → atFlag t ≡ false → steps < left → Leads t (Wait.LegToward (left - steps)) (here t) known
+  unfolding served towardOn reported
+  toward-on left e q l =
+      goes-to (Wait.LegToward left) _ _ known (waiting (Wait.LegToward (left - steps)) now) e refl (rw (flag-cut false q, lt-leb left steps l)) refl refl refl refl
+
+  toward-cut : (left : ℕ) → u .core .motor .wait ≡ Wait.LegToward left → atFlag t ≡ true → Leads t Wait.Nothing 0 true
+  unfolding served towardOn reported
+  toward-cut left e q = goes-to (Wait.LegToward left) _ _ true (placedAt 0 now) e refl (rw (flag-cut true q)) refl refl refl refl
 
   -- a homing leg: found, used up, or gone on with
   abbrev Fails : Moved → Type 0
@@ -493,6 +513,10 @@ module _ (u : Drive) (sample ms steps : ℕ) (image : List ℕ) (run : u .core .
     level-comes = level-comes;
     level-stays = level-stays;
     edge = edge;
+    away-on = away-on;
+    away-clear = away-clear;
+    toward-on = toward-on;
+    toward-cut = toward-cut;
     homing-fails = homing-fails;
     homing-finds = homing-finds;
   }

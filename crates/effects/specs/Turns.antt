@@ -1,10 +1,11 @@
 -- What a turn makes of a unit: a wait served, an idle turn, each command taken, and the action answered. 01, "A turn".
 -- Assumes nothing.
-use Prim.Native.Nat.{ℕ, _^_, _-_, _≤_, _<_}
+use Prim.Native.Nat.{ℕ, _^_, _+_, _-_, _≤_, _<_}
 use mathlib.Core.Path.{_≡_}
 use mathlib.Core.List.{List, [], _∷_}
-use mathlib.Core.Bool.{Bool, true, false, cond}
+use mathlib.Core.Bool.{Bool, true, false, cond, not}
 use lib.ListN.{set}
+use lib.Dec.{eqb}
 use Rattle.commands.specs.declared.Read.the-variants.{At}
 use Rattle.commands.specs.Table.{top, commandOf}
 use Rattle.motor.specs.declared.Wait.{Wait}
@@ -90,11 +91,6 @@ pub record SetsOne (u v : Drive) (sample : ℕ) (p i n : ℕ) : Type 0 where
   pub goes : Goes u v sample Wait.Nothing p (u .core .motor .known)
   pub sets : listed (v .core .settings) ≡ set (listed (u .core .settings)) i n
 
--- and a homing leg is waited for
-pub record Homes (u v : Drive) (sample p : ℕ) : Type 0 where
-  pub leg : homing (v .core .motor .wait) ≡ true
-  pub plainly : Plainly u v sample (v .core .motor .wait) p (u .core .motor .known)
-
 -- whether the run goes on or not: nothing is waited for, and neither settings nor position nor a loaded line change
 pub record Keeps (u v : Drive) (sample p : ℕ) : Type 0 where
   pub settings-same : v .core .settings ≡ u .core .settings
@@ -146,6 +142,10 @@ waitOf t = t .unit .core .motor .wait
 abbrev pub knownIn : ATurn → Bool
 knownIn t = t .unit .core .motor .known
 
+-- "the flag is cut when input 3 is high (`f0`) or low (`f1`)": 13 is the high level of input 3, as `H` and `S` name it
+abbrev pub atFlag : ATurn → Bool
+atFlag t = cond (eqb (t .unit .core .settings .flag) 0) (levelThere 13 (t .sample)) (not (levelThere 13 (t .sample)))
+
 abbrev pub Leads : ATurn → Wait → ℕ → Bool → Type 0
 Leads t w p k = Plainly (t .unit) (then t) (t .sample) w p k
 
@@ -181,8 +181,9 @@ pub record EachCommand (t : ATurn) : Type 0 where
   -- "`P0`, `D0` are endless: greatest number is the distance to the end of the range"
   pub endless-up : Takes t 80 0 → knownIn t ≡ true → Leads t (Wait.Move true true (top - here t)) (here t) true
   pub endless-down : Takes t 68 0 → knownIn t ≡ true → Leads t (Wait.Move false true (here t)) (here t) true
-  -- `Z`: a homing leg is waited for
-  pub homes : (n : ℕ) → Takes t 90 n → Homes (t .unit) (then t) (t .sample) (here t)
+  -- `Z n`: "If cut, move away at most 10,000 ..; then toward zero at most n", and 400 more by E2
+  pub homes-away : (n : ℕ) → Takes t 90 n → atFlag t ≡ true → Waits t (Wait.LegAway 10000 n)
+  pub homes-toward : (n : ℕ) → n ≤ top → Takes t 90 n → atFlag t ≡ false → Waits t (Wait.LegToward (n + 400))
   -- `g`, `G`, `S` and `e`: where they lead is said of whole runs, and they touch no setting and not the position
   pub flows : {l : ℕ} (n : ℕ) → Flowing l → Takes t l n → Keeps (t .unit) (then t) (t .sample) (here t)
 
@@ -204,6 +205,12 @@ pub record EachWait (t : ATurn) : Type 0 where
   -- an endless move ends "when input 2 falls between two samples"
   pub edge : (up : Bool) (left : ℕ) → waitOf t ≡ Wait.Move up true left → falls (t .unit .core .motor .sample) (t .sample) ≡ true
       → Waits t Wait.Nothing
+  -- away "until clear; then toward zero": "steps count before the sample"
+  pub away-on : (left n : ℕ) → waitOf t ≡ Wait.LegAway left n → atFlag t ≡ true → t .steps < left → Waits t (Wait.LegAway (left - t .steps) n)
+  pub away-clear : (left n : ℕ) → n ≤ top → waitOf t ≡ Wait.LegAway left n → atFlag t ≡ false → Waits t (Wait.LegToward (n + 400))
+  -- toward zero "until cut, then position is 0"; "the awaited level wins over a leg used up"
+  pub toward-on : (left : ℕ) → waitOf t ≡ Wait.LegToward left → atFlag t ≡ false → t .steps < left → Waits t (Wait.LegToward (left - t .steps))
+  pub toward-cut : (left : ℕ) → waitOf t ≡ Wait.LegToward left → atFlag t ≡ true → Leads t Wait.Nothing 0 true
   -- "A failed homing .. makes the position unknown until `z` or a homing that finds", "then position is 0"
   pub homing-fails : homing (waitOf t) ≡ true → then t .core .running ≡ false → then t .core .motor .known ≡ false
   pub homing-finds : homing (waitOf t) ≡ true → then t .core .running ≡ true → homing (then t .core .motor .wait) ≡ false

@@ -27,7 +27,9 @@ use Rattle.obeying.specs.declared.Obeyed.{Obeyed}
 use Rattle.obeying.specs.Obeying.{stepSize, dataOf, loadedAs, textWritten}
 use Rattle.drive.specs.Unit.{Drive}
 use Rattle.drive.proofs.FeedLaws.{frame-does}
-use Rattle.drive.specs.Calls.{freshUnit, receivedBy, receivedObeyed, textThen, answerTo, turnOf}
+use Rattle.drive.specs.declared.StartAnswer.{StartAnswer}
+use Rattle.drive.proofs.StartLaws.{started-unit}
+use Rattle.drive.specs.Calls.{startOf, receivedBy, receivedObeyed, textThen, answerTo, turnOf}
 use Rattle.motor.specs.Deeds.{Goes-on, same, waits, less, places}
 use Rattle.keeping.specs.Deeds.{Sets, Does, goes, ends, Steps, keeps-text, enters-text}
 use Rattle.obeying.specs.Deeds.{Tells, nothingTold, textTold, positionTold, speedTold, sampleTold, stepSizeTold, correctionTold}
@@ -112,8 +114,9 @@ fits-kept = record {
       (record { text = f .text; core = record { motor = reported-fits sample steps (c .motor) (omega arith) (f .core .motor); settings = f .core .settings } }) d;
 }
 
-pub start-fits : (number : ℕ) (image body : List ℕ) → Fits (freshUnit number image body)
-start-fits = calls-keep fits-kept .starts
+pub start-fits : (number : ℕ) (image body text : List ℕ) → startOf number image body text .answer ≡ StartAnswer.Started
+    → Fits (startOf number image body text .unit)
+start-fits number image body text e = rw (started-unit number image body text e) (calls-keep fits-kept .starts number image body)
 
 pub turn-fits : (u : Drive) (sample ms steps : ℕ) (image : List ℕ) → Fits u → Fits (turnOf u sample ms steps image .unit)
 turn-fits = calls-keep fits-kept .turns

@@ -4,7 +4,6 @@ mod setting;
 mod taking;
 
 ghost use mathlib.Core.Path.{_≡_};
-ghost use Prim.Native.Nat.{min};
 ghost use Rattle.turns.specs.Turns.{withFlow, withMotor, withSettings, freshCore, started, ended, running, stepOf, settled, turnCore, directionOf, actionAnswered};
 use flow::Flow;
 use motor::Last;
