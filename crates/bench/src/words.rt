@@ -18,6 +18,7 @@ pub(crate) enum Word {
     Write,
     Read,
     Help,
+    Count,
     Unknown,
 }
 
@@ -42,6 +43,7 @@ pub(crate) fn word_of(w: &[u8]) -> Word {
         15 => Word::Write,
         16 => Word::Read,
         18 => Word::Help,
+        19 => Word::Count,
         _ => Word::Unknown,
     }
 }

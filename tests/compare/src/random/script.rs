@@ -89,6 +89,10 @@ const UNREADABLE: &[&str] = &[
     "line 4",
     "line zz",
     "line 41 35",
+    "count",
+    "count 4",
+    "count zz",
+    "count 41 35",
     "text",
     "text 4",
     "text 4g",
@@ -175,6 +179,7 @@ enum Choice {
     Frame,
     Unit,
     Line,
+    Count,
     Text,
     Ramp,
     Write,
@@ -192,6 +197,7 @@ enum Choice {
 /// What is sent beside frames and turns.
 const BESIDE: &[(u64, Choice)] = &[
     (16, Choice::Line),
+    (12, Choice::Count),
     (10, Choice::Text),
     (14, Choice::Ramp),
     (18, Choice::Write),
@@ -309,6 +315,7 @@ impl Round {
             Choice::Frame => self.frame(),
             Choice::Unit => b"unit".to_vec(),
             Choice::Line => with_hex("line", &self.lines().body()),
+            Choice::Count => with_hex("count", &self.counted()),
             Choice::Text => with_hex("text", &self.lines().text()),
             Choice::Ramp => self.ramp(),
             Choice::Write => self.write(),
@@ -335,6 +342,23 @@ impl Round {
         let place =
             self.random.weighted(&[(weights[0], 0), (weights[1], 1), (weights[2], 2), (weights[3], 3)]);
         choices[place]
+    }
+
+    /// A body to be counted: any, or loops within loops, often with counts near
+    /// the bound and sometimes with a letter that is not counted.
+    fn counted(&mut self) -> Vec<u8> {
+        if self.random.chance(50) {
+            return self.lines().body();
+        }
+        let depth = self.random.below(6);
+        let mut text = "g".repeat(depth as usize);
+        for _ in 0..depth {
+            text += &"z0".repeat(self.random.below(13) as usize);
+            let n = self.random.pick(&[1, 2, 29_999, 30_000, 30_000, 30_000]);
+            text += &format!("G{n}");
+        }
+        text += self.random.pick(&["", "A1", "P2D3", "gG2", "HR", "D0", "R", "R", "R"]);
+        text.into_bytes()
     }
 
     fn lines(&mut self) -> Lines<'_> {
@@ -691,7 +715,7 @@ impl Round {
 
 /// Whether the operation has bytes in hex digits.
 fn has_bytes(operation: &[u8]) -> bool {
-    let words = [&b"feed "[..], b"line ", b"text ", b"read ", b"image "];
+    let words = [&b"feed "[..], b"line ", b"text ", b"read ", b"count ", b"image "];
     words.iter().any(|word| operation.starts_with(word)) && !operation.ends_with(b"empty")
 }
 
