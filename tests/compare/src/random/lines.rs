@@ -383,6 +383,23 @@ impl Lines<'_> {
         }
     }
 
+    /// A body to be counted: any, or loops within loops, often with counts near
+    /// the bound and sometimes with a letter that is not counted.
+    pub fn counted(&mut self) -> Vec<u8> {
+        if self.random.chance(50) {
+            return self.body();
+        }
+        let depth = self.random.below(6);
+        let mut text = "g".repeat(depth as usize);
+        for _ in 0..depth {
+            text += &"z0".repeat(self.random.below(13) as usize);
+            let n = self.random.pick(&[1, 2, 29_999, 30_000, 30_000, 30_000]);
+            text += &format!("G{n}");
+        }
+        text += self.random.pick(&["", "A1", "P2D3", "gG2", "HR", "D0", "R", "R", "R"]);
+        text.into_bytes()
+    }
+
     /// Bytes of any kind.
     pub fn noise(&mut self, bound: usize) -> Vec<u8> {
         let count = self.random.under(bound + 1);

@@ -315,7 +315,7 @@ impl Round {
             Choice::Frame => self.frame(),
             Choice::Unit => b"unit".to_vec(),
             Choice::Line => with_hex("line", &self.lines().body()),
-            Choice::Count => with_hex("count", &self.counted()),
+            Choice::Count => with_hex("count", &self.lines().counted()),
             Choice::Text => with_hex("text", &self.lines().text()),
             Choice::Ramp => self.ramp(),
             Choice::Write => self.write(),
@@ -342,23 +342,6 @@ impl Round {
         let place =
             self.random.weighted(&[(weights[0], 0), (weights[1], 1), (weights[2], 2), (weights[3], 3)]);
         choices[place]
-    }
-
-    /// A body to be counted: any, or loops within loops, often with counts near
-    /// the bound and sometimes with a letter that is not counted.
-    fn counted(&mut self) -> Vec<u8> {
-        if self.random.chance(50) {
-            return self.lines().body();
-        }
-        let depth = self.random.below(6);
-        let mut text = "g".repeat(depth as usize);
-        for _ in 0..depth {
-            text += &"z0".repeat(self.random.below(13) as usize);
-            let n = self.random.pick(&[1, 2, 29_999, 30_000, 30_000, 30_000]);
-            text += &format!("G{n}");
-        }
-        text += self.random.pick(&["", "A1", "P2D3", "gG2", "HR", "D0", "R", "R", "R"]);
-        text.into_bytes()
     }
 
     fn lines(&mut self) -> Lines<'_> {
