@@ -17,8 +17,8 @@ pub(crate) enum Word {
     Ramp,
     Write,
     Read,
-    Help,
     Count,
+    Help,
     Unknown,
 }
 
@@ -42,8 +42,8 @@ pub(crate) fn word_of(w: &[u8]) -> Word {
         13 => Word::Ramp,
         15 => Word::Write,
         16 => Word::Read,
-        18 => Word::Help,
-        19 => Word::Count,
+        17 => Word::Count,
+        19 => Word::Help,
         _ => Word::Unknown,
     }
 }
