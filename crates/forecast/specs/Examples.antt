@@ -45,6 +45,8 @@ examples =
     ∷ example "ggggA1G30000G30000G30000G30000R" (Commands 1620054001800060001)
     ∷ example "ggggA1A1A1A1A1A1A1A1A1A1G30000G30000G30000G30000R" (Commands 8910054001800060001)
     ∷ example "ggggA1A1A1A1A1A1A1A1A1A1A1G30000G30000G30000G30000R" TooMany
+    -- with thirty it is over 2^64, and its low 64 bits are below the bound
+    ∷ example "ggggz0z0z0z0z0z0z0z0z0z0z0z0z0z0z0z0z0z0z0z0z0z0z0z0z0z0z0z0z0z0G30000G30000G30000G30000R" TooMany
     -- "a count over 2^63 − 1": exactly that many, and one more; at its end, and at its beginning
     ∷ example "ggggz0G30000gz0G30000gz0G30000gz0G30000gz0G30000gz0G20799z0G30000gz0G5574z0G30000gz0G911G30000gz0G12902z0R" (Commands 9223372036854775807)
     ∷ example "ggggz0G30000gz0G30000gz0G30000gz0G30000gz0G30000gz0G20799z0G30000gz0G5574z0G30000gz0G911G30000gz0G12902z0z0R" TooMany

@@ -384,7 +384,7 @@ impl Lines<'_> {
     }
 
     /// A body to be counted: any, or loops within loops, often with counts near
-    /// the bound and sometimes with a letter that is not counted.
+    /// the bound or past 64 bits, and sometimes with a letter that is not counted.
     pub fn counted(&mut self) -> Vec<u8> {
         if self.random.chance(50) {
             return self.body();
@@ -392,7 +392,8 @@ impl Lines<'_> {
         let depth = self.random.below(6);
         let mut text = "g".repeat(depth as usize);
         for _ in 0..depth {
-            text += &"z0".repeat(self.random.below(13) as usize);
+            let most = self.random.pick(&[2, 13, 13, 60]);
+            text += &"z0".repeat(self.random.under(most));
             let n = self.random.pick(&[1, 2, 29_999, 30_000, 30_000, 30_000]);
             text += &format!("G{n}");
         }
