@@ -389,13 +389,11 @@ impl Lines<'_> {
         if self.random.chance(50) {
             return self.body();
         }
-        let depth = self.random.below(6);
-        let mut text = "g".repeat(depth as usize);
+        let depth = self.random.pick(&[0, 1, 2, 3, 4, 4, 4, 5]);
+        let mut text = "g".repeat(depth) + &"z0".repeat(self.random.under(60));
         for _ in 0..depth {
-            let most = self.random.pick(&[2, 13, 13, 60]);
-            text += &"z0".repeat(self.random.under(most));
             let n = self.random.pick(&[1, 2, 29_999, 30_000, 30_000, 30_000]);
-            text += &format!("G{n}");
+            text += &format!("G{n}{}", "A1".repeat(self.random.under(3)));
         }
         text += self.random.pick(&["", "A1", "P2D3", "gG2", "HR", "D0", "R", "R", "R"]);
         text.into_bytes()
