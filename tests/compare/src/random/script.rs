@@ -384,7 +384,7 @@ impl Round {
         });
         let word = match made.unwrap_or(0) {
             FEW..MANY => "run",
-            MANY.. if self.random.chance(97) => return self.turn(),
+            MANY.. if self.random.chance(90) => return self.turn(),
             MANY.. => "run",
             _ => self.random.pick(&["run", "timeline"]),
         };
