@@ -1,5 +1,6 @@
 /* What the library says of some bodies of frames, of an image and of moves, through examples/firmware.c: check BODY.. */
 #include "firmware.h"
+#include <inttypes.h>
 #include <stdio.h>
 #include <string.h>
 
@@ -11,7 +12,10 @@ static void line(const char *body)
     if (n > UINT16_MAX) n = UINT16_MAX;
     int runs = n > 1 && body[0] != 's' && body[0] != 'T' && body[n - 1] == 'R';
     uint8_t status = status_of_line((const uint8_t *)body, (uint16_t)n, runs);
-    printf("%-14s status %02X, %s\n", body, status, told[status & 15]);
+    uint64_t commands;
+    printf("%-14s status %02X, %s", body, status, told[status & 15]);
+    if (commands_of_line((const uint8_t *)body, (uint16_t)n, &commands)) printf(", commands of a run: %" PRIu64, commands);
+    printf("\n");
 }
 
 static void image(const char *what, const uint8_t *eeprom)

@@ -15,6 +15,16 @@ uint8_t status_of_line(const uint8_t *body, uint16_t length, int runs)
     return (uint8_t)((code == DT_LINE_TAKEN && runs ? 0x40u : 0x60u) | code);
 }
 
+/* How many commands a run of a line takes when nothing stops it. Where 0 comes back that is not to be told: the line is refused,
+ * it may wait, skip, jump or go on for ever, or it takes 2^63 commands and more. */
+int commands_of_line(const uint8_t *body, uint16_t length, uint64_t *commands)
+{
+    uint64_t count = dt_count(body, length);
+    if (count >= DT_COUNT_REFUSED) return 0;
+    *commands = count;
+    return 1;
+}
+
 /* What the step timer is set to for a move of n microsteps. Where 0 comes back the motor must not be started: a number is out
  * of its range, and no figure of the plan stands. There is no time to be compared and no not-a-number to slip by. */
 int plan_move(uint32_t v, uint32_t l, uint32_t n, struct plan *plan)

@@ -14,6 +14,7 @@ struct plan {
 
 int programs_are_good(const uint8_t eeprom[DT_IMAGE_BYTES]);
 uint8_t status_of_line(const uint8_t *body, uint16_t length, int runs);
+int commands_of_line(const uint8_t *body, uint16_t length, uint64_t *commands);
 int plan_move(uint32_t v, uint32_t l, uint32_t n, struct plan *plan);
 
 #endif

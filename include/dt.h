@@ -1,4 +1,4 @@
-/* The checks and the ramp figures of a DT drive, for firmware.
+/* The checks, the count of commands and the ramp figures of a DT drive, for firmware.
  *
  * Every function answers on every input and returns; none keeps or changes anything, calls the system or needs a heap, so
  * each may be called from any task at any time.
@@ -6,7 +6,7 @@
  * The archive: for a Cortex-M, `chip/dist` writes target/dist/ with a libdt.a for each chip (docs/CHIP.md says how to link it,
  * and its stack). For x86-64 (ELF objects, the System V calling convention), `examples/run` proves the code, writes
  * target/libdt.a and shows it at work; examples/firmware.c is to be copied. The one for x86-64 needs no C library and leaves no
- * symbol undefined: it links with -nostdlib, and its deepest call takes 216 bytes of stack (docs/SPEED.md says how that was
+ * symbol undefined: it links with -nostdlib, and its deepest call takes 360 bytes of stack (docs/SPEED.md says how that was
  * read off). C and C++ may include this header.
  *
  * What the numbers mean is said in docs/MANUAL.md.
@@ -33,6 +33,13 @@ extern "C" {
 #define DT_LINE_MISTAKE 2u  /* an unknown or misplaced letter, the structure, or over 256 bytes */
 #define DT_LINE_OPERAND 3u  /* an operand is missing or out of its range */
 
+/* How many commands a run takes: a count is at most 2^63 - 1, so the numbers from 2^63 on are refusals. */
+#define DT_COUNT_REFUSED UINT64_C(0x8000000000000000)
+#define DT_COUNT_MISTAKE (DT_COUNT_REFUSED + 2u)  /* the line check gives DT_LINE_MISTAKE */
+#define DT_COUNT_OPERAND (DT_COUNT_REFUSED + 3u)  /* the line check gives DT_LINE_OPERAND */
+#define DT_COUNT_LETTER (DT_COUNT_REFUSED + 4u)   /* it has an e, S or H, a bare G, or a G, P or D of 0 */
+#define DT_COUNT_OVER (DT_COUNT_REFUSED + 5u)     /* the count is over 2^63 - 1 */
+
 /* Whether a text may be stored as a program. */
 #define DT_TEXT_GOOD 0u
 #define DT_TEXT_BAD 1u
@@ -51,6 +58,10 @@ extern "C" {
 
 /* The body of a frame, without its address and its CR: DT_LINE_.. */
 uint32_t dt_check_line(const uint8_t *body, uint64_t length);
+
+/* The same body: how many commands a run of its text takes when nothing stops it, or a DT_COUNT_.. An `s` line counts the text
+ * that it stores; a body without a text gives 0. */
+uint64_t dt_count(const uint8_t *body, uint64_t length);
 
 /* The text of a program, without `s`, slot and `R`: DT_TEXT_.. */
 uint32_t dt_check_text(const uint8_t *text, uint64_t length);

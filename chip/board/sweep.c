@@ -57,7 +57,7 @@ static void ramp(void)
     add_double(r.time);
 }
 
-/* Letters and digits as a text, and with an R at the end as a line. */
+/* Letters and digits as a text, and with an R at the end as a line, which is counted too. */
 static void body(void)
 {
     static const char letters[] = "gGAPDVLSHMesR0123456789000111";
@@ -67,6 +67,20 @@ static void body(void)
     add(&checks, dt_check_text(bytes, n));
     if (n > 0) bytes[n - 1] = 'R';
     add(&checks, dt_check_line(bytes, n));
+    add(&checks, dt_count(bytes, n));
+}
+
+/* Loops within loops, their counts on both sides of the bound. */
+static void loops(void)
+{
+    static char text[260];
+    uint32_t n = 0, depth = next() % 5;
+    while (n < depth) text[n++] = 'g';
+    for (uint32_t i = 0; i < depth; i++) {
+        for (uint32_t k = next() % 13; k > 0; k--) n += (uint32_t)sprintf(text + n, "z0");
+        n += (uint32_t)sprintf(text + n, "G%lu", (unsigned long)(30000 - next() % 3));
+    }
+    add(&checks, dt_count((const uint8_t *)text, n));
 }
 
 /* A good image, with one byte changed. */
@@ -96,6 +110,7 @@ int main(void)
         ramp();
         body();
         if (i % 16 == 0) image();
+        if (i % 16 == 1) loops();
     }
     told(&checks);
     told(&figures);

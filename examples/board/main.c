@@ -21,6 +21,7 @@ int main(void)
     static const char *const bodies[] = {"gP5gD1G2G3R", "A2147483648R", "gS03G2R"};
     for (unsigned i = 0; i < sizeof bodies / sizeof bodies[0]; i++)
         printf("%s: code %lu\n", bodies[i], (unsigned long)dt_check_line((const uint8_t *)bodies[i], strlen(bodies[i])));
+    printf("%s: %lu commands\n", bodies[0], (unsigned long)dt_count((const uint8_t *)bodies[0], strlen(bodies[0])));
 
     clear();
     printf("image: %lu\n", (unsigned long)dt_check_image(image, sizeof image));

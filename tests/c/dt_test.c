@@ -52,6 +52,27 @@ static void lines(void)
     same("an empty slice", dt_check_line(NULL, 0), DT_LINE_TAKEN);
 }
 
+/* Numbers of 64 bits, which a double would round. */
+static void counts(void)
+{
+    static const struct { const char *body; uint64_t count; } rows[] = {
+        {"", 0}, {"R", 0}, {"X", 0}, {"T", 0}, {"?0", 0}, {"s3R", 0}, {"gP5gD1G2G3", 22}, {"gP5gD1G2G3R", 22}, {"s3gP5gD1G2G3R", 22},
+        {"gG1", 2}, {"gG30000", 30001}, {"A0z0Z0f0M0R", 5},
+        {"ggggA1A1A1A1A1A1A1A1A1A1G30000G30000G30000G30000R", UINT64_C(8910054001800060001)},
+        {"ggggA1A1A1A1A1A1A1A1A1A1A1G30000G30000G30000G30000R", DT_COUNT_OVER},
+        {"ggggz0z0z0z0z0z0z0z0z0z0z0z0z0z0z0z0z0z0z0z0z0z0z0z0z0z0z0z0z0z0G30000G30000G30000G30000R", DT_COUNT_OVER},
+        {"ggggz0G30000gz0G30000gz0G30000gz0G30000gz0G30000gz0G20799z0G30000gz0G5574z0G30000gz0G911G30000gz0G12902z0", UINT64_C(9223372036854775807)},
+        {"ggggz0G30000gz0G30000gz0G30000gz0G30000gz0G30000gz0G20799z0G30000gz0G5574z0G30000gz0G911G30000gz0G12902z0z0", DT_COUNT_OVER},
+        {"A1e0R", DT_COUNT_LETTER}, {"S01A1R", DT_COUNT_LETTER}, {"HR", DT_COUNT_LETTER}, {"gA1GR", DT_COUNT_LETTER}, {"gA1G0R", DT_COUNT_LETTER},
+        {"P0R", DT_COUNT_LETTER}, {"D0R", DT_COUNT_LETTER}, {"P0xR", DT_COUNT_MISTAKE}, {"P0A2147483648R", DT_COUNT_OPERAND}, {"?1", DT_COUNT_MISTAKE},
+    };
+    for (size_t i = 0; i < sizeof rows / sizeof rows[0]; i++) {
+        uint64_t found = dt_count((const uint8_t *)rows[i].body, strlen(rows[i].body));
+        same(rows[i].body, found == rows[i].count, 1);
+    }
+    same("an empty slice", dt_count(NULL, 0) == 0, 1);
+}
+
 static void texts(void)
 {
     uint8_t nines[257];
@@ -128,6 +149,7 @@ static void ramps(void)
 int main(void)
 {
     lines();
+    counts();
     texts();
     images();
     ramps();

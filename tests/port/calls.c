@@ -6,6 +6,7 @@
  * A call is a letter and its operands, numbers of 32 bits:
  *
  *     L, T, I           length, bytes      the check of a line, a text, an image
+ *     N                 length, bytes      the number of commands of a line
  *     c, p, d, s, a, t  v, l, endless, n   of a ramp: check, peak, distance, speed, acceleration, time
  *
  * An answer is a number of 64 bits; a double is given by its bits. All numbers have the low byte first.
@@ -64,7 +65,7 @@ static void read_call(struct call *call, int letter)
 {
     memset(call, 0, sizeof *call);
     call->letter = letter;
-    if (strchr("LTI", letter)) {
+    if (strchr("LTIN", letter)) {
         read_slice(call);
     } else {
         call->v = read_number();
@@ -78,7 +79,7 @@ static void read_calls(void)
 {
     size_t room = 0;
     for (int letter = getchar(); letter != EOF; letter = getchar()) {
-        if (letter == 0 || !strchr("LTIcpdsat", letter)) fail("an unknown letter");
+        if (letter == 0 || !strchr("LTINcpdsat", letter)) fail("an unknown letter");
         if (count == room) {
             room = 2 * room + 1;
             calls = found(realloc(calls, room * sizeof *calls));
@@ -100,6 +101,7 @@ static uint64_t answer(const struct call *c, const uint8_t *bytes)
     case 'L': return dt_check_line(bytes, c->length);
     case 'T': return dt_check_text(bytes, c->length);
     case 'I': return dt_check_image(bytes, c->length);
+    case 'N': return dt_count(bytes, c->length);
     case 'c': return dt_ramp_check(c->v, c->l, c->endless, c->n);
     case 'p': return dt_ramp_peak(c->v, c->l, c->endless, c->n);
     case 'd': return dt_ramp_distance(c->v, c->l, c->endless, c->n);

@@ -1,16 +1,17 @@
-// The operations that need no unit: `line`, `text`, `read`, `ramp`, `write`.
+// The operations that need no unit: `line`, `text`, `read`, `count`, `ramp`, `write`.
 use crate::fields;
 use crate::list;
 use crate::operation::Judge;
 use crate::state;
 use crate::telling;
 use answers::Found;
+use forecast::Counted;
 use host::LineWritten;
 use lines::Slot;
 use ramp::Figures;
 use ramp::Verdict;
 
-// `line HEX`, `text HEX`, `read HEX`
+// `line HEX`, `text HEX`, `read HEX`, `count HEX`
 pub(crate) fn judge(as_what: Judge, line: &[u8], at: usize, out: &mut [u8]) -> usize {
     let mut bytes = [0u8; state::LINE_BYTES];
     let n = fields::read_bytes(line, at, &mut bytes);
@@ -23,6 +24,7 @@ fn judge_bytes(as_what: Judge, bytes: &[u8], out: &mut [u8]) -> usize {
         Judge::Line => tell_code(lines::check_line(bytes), out),
         Judge::Text => tell_text(lines::check_text(bytes), out),
         Judge::Packet => tell_packet(bytes, out),
+        Judge::Count => tell_count(forecast::count(bytes), out),
     }
 }
 
@@ -49,6 +51,16 @@ fn tell_packet(bytes: &[u8], out: &mut [u8]) -> usize {
     let at = telling::add(out, 0, b"packet ");
     let next = telling::add_hex(out, at, p.status as u64, 2);
     telling::add_bytes(out, next, b" ", fields::part(bytes, p.at, p.length))
+}
+
+// How many commands a run takes, or why that is not said.
+fn tell_count(counted: Counted, out: &mut [u8]) -> usize {
+    match counted {
+        Counted::Commands(n) => telling::add_number(out, 0, b"count ", n),
+        Counted::Refused(f) => telling::add_number(out, 0, b"refused ", f.code as u64),
+        Counted::Letter => telling::add(out, 0, b"refused letter"),
+        Counted::TooMany => telling::add(out, 0, b"refused count"),
+    }
 }
 
 // `ramp V L N`, `ramp V L endless`

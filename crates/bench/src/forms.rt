@@ -8,9 +8,9 @@ use digits::Operand;
 const MOST_FIELDS: usize = 4;
 
 // The rows, and the bytes of the table.
-const ROWS: usize = 19;
+const ROWS: usize = 20;
 
-const TABLE_BYTES: usize = 755;
+const TABLE_BYTES: usize = 802;
 
 const TABLE: [u8; TABLE_BYTES] = *b"image HEX : lend these bytes as the image
 image empty : lend the image with all slots empty
@@ -29,6 +29,7 @@ ramp V L N : tell the ramp of N microsteps
 ramp V L endless : tell the ramp of an endless move
 write SLOT RUN LIST : write a line from a list of commands
 read HEX : read an answer packet
+count HEX : count the commands of a body's run
 /... : feed a line as it is typed, with a CR
 help : tell the operations";
 

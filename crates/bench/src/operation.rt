@@ -54,6 +54,7 @@ pub(crate) enum Judge {
     Line,
     Text,
     Packet,
+    Count,
 }
 
 // The greatest unit number and the greatest sample.
@@ -111,6 +112,7 @@ fn with_bytes(word: Word, line: &[u8], at: usize) -> Operation {
         Word::Line => Operation::Judge(Judge::Line, at),
         Word::Text => Operation::Judge(Judge::Text, at),
         Word::Read => Operation::Judge(Judge::Packet, at),
+        Word::Count => Operation::Judge(Judge::Count, at),
         _ => Operation::Unreadable,
     }
 }

@@ -1,10 +1,10 @@
 -- A command taken in a turn is the next of the run. Assumes nothing.
 use Prim.Native.Nat.{ℕ, _-_, _<_}
-use mathlib.Core.Path.{_≡_, refl}
+use mathlib.Core.Path.{_≡_, refl, sym, ap, subst}
 use mathlib.Core.List.{List}
 use mathlib.Core.Bool.{true, false}
 use native.Mathlib.Omega.{arith}
-use lib.ListN.{length}
+use lib.ListN.{length, take}
 use Rattle.commands.specs.declared.Command.{Command}
 use Rattle.commands.specs.declared.Command.the-variants.{LoopBegin, LoopEnd, Skip, Jump, Plain}
 use Rattle.commands.specs.declared.Act.{Act}
@@ -17,17 +17,23 @@ use Rattle.lines.specs.Loops.{Skippable}
 use Rattle.lines.proofs.LoopLaws.{lawful}
 use Rattle.parts.proofs.Laws.{cases}
 use Rattle.motor.specs.Inputs.{levelThere}
-use Rattle.flow.specs.Flow.{opens}
+use Rattle.flow.specs.declared.Flow.{Flow}
+use Rattle.flow.specs.Flow.{gone, opens}
 use Rattle.flow.proofs.FlowLaws.{FlowOk, opens-length, gone-ok, skipped-ok, begin-goes, opened-ok, end-goes, closed-ok}
-use Rattle.motor.specs.Motion.{relative, absolute, ifKnown}
+use Rattle.motor.specs.Motion.{relative, absolute, ifKnown, reported}
 use Rattle.courses.specs.Meaning.{Course, Step}
 use Rattle.courses.proofs.StandLaws.{Skipped, Next}
 use Rattle.courses.proofs.FlowLaws.{loopsOf, Taken, opened-taken, closed-taken}
 use Rattle.turns.specs.declared.Core.{Core}
 use Rattle.turns.specs.declared.Enter.the-variants.{Stay}
 use Rattle.turns.specs.declared.Stepped.{Stepped}
-use Rattle.turns.specs.Turns.{acted, skipTaken, stays, commandTaken, skipped as skippedTo}
-use Rattle.schedule.specs.Claims.{NoJump}
+use Rattle.turns.specs.Turns.{withFlow, withMotor, acted, skipTaken, stays, commandTaken, skipped as skippedTo}
+use Rattle.turns.specs.Ends.{Reads}
+use Rattle.drive.specs.Unit.{Drive}
+use Rattle.runs.specs.Reach.{Turn, after, textOf}
+use Rattle.runs.specs.Causes.{Made}
+use Rattle.runs.proofs.CommandLaws.{turned}
+use Rattle.schedule.specs.Claims.{NoJump, GoesOn}
 use Rattle.schedule.proofs.KeptLaws.{moved-flow}
 
 -- a plain command leaves the flow behind it
@@ -41,6 +47,19 @@ acted-flow (Home n) c = refl
 acted-flow (Set which n) c = refl
 acted-flow (Delay n) c = refl
 acted-flow (WaitInput n) c = refl
+
+pub plain-goes-on : (u : Drive) (a : Act) (next sample ms steps : ℕ) (image : List ℕ) → u .core .running ≡ true → Made u sample steps image
+    → Reads (textOf u) (u .core) (At (Plain a) next) → GoesOn u next (after (Turn sample ms steps image) u)
+unfolding commandTaken
+plain-goes-on u a next sample ms steps image h m r =
+    let e = acted-flow a (withFlow (gone next (u .core .flow)) (withMotor (reported sample steps (u .core .motor)) (u .core))) in
+    subst (GoesOn u next) (sym (turned u h sample ms steps image m (Plain a) next r)) (record {
+      text-same = ap (λ (f : Flow). take (f .length) (u .text)) e;
+      place = ap (λ (f : Flow). f .at) e;
+      depth-same = ap (λ (f : Flow). f .depth) e;
+      starts-same = ap (λ (f : Flow). f .starts) e;
+      rounds-same = ap (λ (f : Flow). f .dones) e;
+    })
 
 -- the flow stays in its text, and xs has been taken
 pub record Goes (t : List ℕ) (whole : Course) (xs : List Step) (s : Stepped) : Type 0 where

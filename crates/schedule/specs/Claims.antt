@@ -7,12 +7,14 @@ use mathlib.Core.Bool.{true, false}
 use lib.ListN.{length}
 use Rattle.commands.specs.declared.Command.{Command}
 use Rattle.commands.specs.declared.Command.the-variants.{LoopBegin, LoopEnd, Skip, Jump, Plain}
-use Rattle.commands.specs.declared.Read.the-variants.{End}
+use Rattle.commands.specs.declared.Act.{Act}
+use Rattle.commands.specs.declared.Read.the-variants.{At, End}
 use Rattle.image.specs.Image.{slotText}
 use Rattle.turns.specs.Ends.{Reads}
 use Rattle.drive.specs.Unit.{Drive}
 use Rattle.drive.specs.Calls.{startOf}
 use Rattle.runs.specs.Reach.{Call, Turn, after, Reached, textOf}
+use Rattle.runs.specs.Causes.{Made}
 use Rattle.courses.specs.Meaning.{Step, step, Runs, commandsOf, Steady, unrolled, courseIn, commandsIn}
 use Rattle.schedule.specs.Ran.{Takes, Begins, Ran}
 
@@ -27,6 +29,14 @@ NoJump (Plain a) = Unit
 abbrev pub InText : List Command → Type 0
 InText [] = Unit
 InText (d ∷ ds) = NoJump d × InText ds
+
+-- u has taken a plain command, behind which `next` stands, and is v: that is next in the same text, and the open loops and how often each has run are as they were
+pub record GoesOn (u : Drive) (next : ℕ) (v : Drive) : Type 0 where
+  pub text-same : textOf v ≡ textOf u
+  pub place : v .core .flow .at ≡ next
+  pub depth-same : v .core .flow .depth ≡ u .core .flow .depth
+  pub starts-same : v .core .flow .starts ≡ u .core .flow .starts
+  pub rounds-same : v .core .flow .dones ≡ u .core .flow .dones
 
 -- a text that is run from its beginning, unless the run has stopped
 pub record Entered (t : List ℕ) (v : Drive) : Type 0 where
@@ -66,3 +76,6 @@ pub record ScheduleClaims : Type 0 where
   -- and goes as its course says
   pub runs-as : {u v : Drive} {xs : List Step} → Reached u → Begins u → Ran u xs v → InText (commandsOf xs) → RunsAs (textOf u) xs v
   pub counted : {u v : Drive} {xs : List Step} → Reached u → Begins u → Steady (courseIn (textOf u)) → Ran u xs v → Counted (textOf u) xs v
+  -- a plain command keeps the flow, also where it stops the run: the one statement that knows each of them, so one command more is one case more of its proof
+  pub plain-goes-on : (u : Drive) (a : Act) (next sample ms steps : ℕ) (image : List ℕ) → u .core .running ≡ true → Made u sample steps image
+      → Reads (textOf u) (u .core) (At (Plain a) next) → GoesOn u next (after (Turn sample ms steps image) u)

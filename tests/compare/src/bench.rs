@@ -3,6 +3,7 @@
 
 use std::io::Write;
 
+use crate::count::{self, Uncounted};
 use crate::course::{self, End};
 use crate::host::{self, HostRefusal, Item};
 use crate::image;
@@ -46,6 +47,7 @@ ramp V L N : tell the ramp of N microsteps
 ramp V L endless : tell the ramp of an endless move
 write SLOT RUN LIST : write a line from a list of commands
 read HEX : read an answer packet
+count HEX : count the commands of a body's run
 /... : feed a line as it is typed, with a CR
 help : tell the operations";
 
@@ -132,6 +134,7 @@ impl Bench {
             b"ramp" => ramp(fields.ok_or(MISSING)?, out),
             b"write" => self.write(fields.ok_or(MISSING)?, out),
             b"read" => self.read(only(fields)?, out),
+            b"count" => self.count(only(fields)?, out),
             _ => Err(Unreadable("no such operation")),
         }
     }
@@ -277,6 +280,17 @@ impl Bench {
         read_hex(field, &mut self.bytes)?;
         let good = line::is_stored_text(&self.bytes);
         say!(out, "text {}", if good { "ok" } else { "bad" });
+        Ok(())
+    }
+
+    fn count(&mut self, field: &[u8], out: &mut Vec<u8>) -> Answered {
+        read_hex(field, &mut self.bytes)?;
+        match count::count(&self.bytes) {
+            Ok(count) => say!(out, "count {count}"),
+            Err(Uncounted::Line(code)) => say!(out, "refused {}", code as u8),
+            Err(Uncounted::Letter) => say!(out, "refused letter"),
+            Err(Uncounted::Count) => say!(out, "refused count"),
+        }
         Ok(())
     }
 

@@ -92,6 +92,13 @@ const ANSWERS: &[&str] = &[
     "line: 3",
     "text: ok",
     "text: bad",
+    "count: 0",
+    "count: some",
+    "count: over 32 bits",
+    "count: refused 2",
+    "count: refused 3",
+    "count: refused letter",
+    "count: refused count",
     "ramp: finite",
     "ramp: endless",
     "ramp: refused V",
@@ -110,7 +117,7 @@ const ANSWERS: &[&str] = &[
 /// The words of the operations; each can be unreadable.
 const WORDS: &[&str] = &[
     "image", "room", "buffer", "start", "feed", "turn", "run", "timeline", "unit", "store", "line", "text",
-    "ramp", "write", "read", "help", "other",
+    "ramp", "write", "read", "help", "count", "other",
 ];
 
 /// Every kind that [`of_event`] names.
@@ -231,6 +238,8 @@ fn short(word: &str, operation: &str, answer: &str) -> String {
         ("turn", ["act", way, ..]) => format!("act {way}"),
         ("unit", ["unit", state, ..]) => state.to_string(),
         ("line" | "text", [_, judged]) => judged.to_string(),
+        ("count", ["count", "0"]) => "0".to_string(),
+        ("count", ["count", n]) => if n.len() > 10 { "over 32 bits" } else { "some" }.to_string(),
         ("ramp", ["ramp", ..]) => {
             if operation.ends_with("endless") { "endless" } else { "finite" }.to_string()
         }

@@ -10,6 +10,7 @@
 
 pub mod address;
 pub mod command;
+pub mod count;
 pub mod decimal;
 pub mod host;
 pub mod image;

@@ -208,7 +208,7 @@ ran 8 idle 1";
 #[test]
 fn help() {
     let lines = answers(&["help"]).concat();
-    assert_eq!(lines.lines().count(), 19);
+    assert_eq!(lines.lines().count(), 20);
     assert!(lines.lines().all(|line| line.contains(" : ")));
 }
 

@@ -2,6 +2,7 @@
 
 mod rig;
 
+use drive_model::count::count;
 use drive_model::image;
 use drive_model::turn::Action::{Down, None as Rest, Up};
 use drive_model::turn::TurnRefusal;
@@ -32,6 +33,16 @@ fn refused_turns_change_nothing() {
     assert_eq!(rig.refused(15, 0, 3), TurnRefusal::Steps);
     assert_eq!(rig.turn(7, 1, 2), Rest);
     assert_eq!(rig.turn(7, 1, 0), Up(6));
+}
+
+/// Paper 02, E14: "a run that reaches its end took exactly that many". Without a
+/// wait each turn takes a command, and one more ends the run.
+#[test]
+fn as_many_commands_as_counted() {
+    for text in ["z1", "gG1", "gG300", "gz1gV7G2G3", "A0gggM0G2z1G3G4L7", "ggggz1G3gf1G2G3z2G3F1G2J1"] {
+        let counted = count(text.as_bytes()).unwrap();
+        assert_eq!(Rig::running(text).finish(15) as u64, counted + 1, "{text}");
+    }
 }
 
 #[test]

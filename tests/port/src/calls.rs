@@ -1,5 +1,6 @@
 //! Calls of the C port as `calls.c` reads them, with the model's answers.
 
+use drive_model::count::{self, Uncounted};
 use drive_model::image;
 use drive_model::line;
 use drive_model::ramp::{self, Figures, Length, RampRefusal};
@@ -7,12 +8,17 @@ use drive_model::ramp::{self, Figures, Length, RampRefusal};
 /// The letters of all figures of a ramp.
 pub const FIGURES: [u8; 6] = *b"cpdsat";
 
+/// No count is so great: `DT_COUNT_REFUSED`.
+pub const REFUSED: u64 = 1 << 63;
+
 /// One call of `include/dt.h`.
 #[derive(Clone, Debug, PartialEq, Eq)]
 pub enum Call {
     Line(Vec<u8>),
     Text(Vec<u8>),
     Image(Vec<u8>),
+    /// How many commands a line takes.
+    Count(Vec<u8>),
     /// A figure, by its letter, of V, L, endless and N.
     Ramp(u8, [u32; 4]),
 }
@@ -24,6 +30,7 @@ impl Call {
             Call::Line(bytes) => write_slice(input, b'L', bytes),
             Call::Text(bytes) => write_slice(input, b'T', bytes),
             Call::Image(bytes) => write_slice(input, b'I', bytes),
+            Call::Count(bytes) => write_slice(input, b'N', bytes),
             Call::Ramp(letter, numbers) => {
                 input.push(*letter);
                 numbers.iter().for_each(|number| input.extend(number.to_le_bytes()));
@@ -41,11 +48,21 @@ impl Call {
                 Ok(_) => 2,
                 Err(_) => 1,
             },
+            Call::Count(body) => count::count(body).unwrap_or_else(|why| REFUSED + number_of(why)),
             &Call::Ramp(letter, [v, l, endless, n]) => {
                 let length = if endless == 0 { Length::Finite(n) } else { Length::Endless };
                 figure(letter, ramp::figures(v, l, length))
             }
         }
+    }
+}
+
+/// What the header adds to `DT_COUNT_REFUSED`.
+fn number_of(why: Uncounted) -> u64 {
+    match why {
+        Uncounted::Line(code) => code as u64,
+        Uncounted::Letter => 4,
+        Uncounted::Count => 5,
     }
 }
 
@@ -79,6 +96,7 @@ pub fn read(mut input: &[u8]) -> Option<Vec<Call>> {
             b'L' => Call::Line(read_slice(&mut input)?),
             b'T' => Call::Text(read_slice(&mut input)?),
             b'I' => Call::Image(read_slice(&mut input)?),
+            b'N' => Call::Count(read_slice(&mut input)?),
             _ if FIGURES.contains(&letter) => {
                 let mut number = || read_number(&mut input);
                 Call::Ramp(letter, [number()?, number()?, number()?, number()?])

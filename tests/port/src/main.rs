@@ -6,7 +6,7 @@ use std::fmt;
 use std::io::{self, Write};
 use std::process::{Command, Output, Stdio};
 
-use calls::{Call, FIGURES};
+use calls::{Call, FIGURES, REFUSED};
 use drive_model::image::IMAGE;
 use drive_model::pace::{self, Mode};
 use drive_model::random::{Lines, Random};
@@ -103,7 +103,8 @@ fn move_of(random: &mut Random) -> [u32; 4] {
 /// One call, or those of all figures of a ramp.
 fn case(random: &mut Random) -> Vec<Call> {
     match random.below(10) {
-        0..=4 => vec![Call::Line(body(random))],
+        0..=3 => vec![Call::Line(body(random))],
+        4 => vec![Call::Count(lines(random).counted())],
         5..=6 => vec![Call::Text(text(random))],
         7 => vec![Call::Image(image(random))],
         _ => {
@@ -132,15 +133,26 @@ fn word(call: &Call) -> &'static str {
         Call::Line(_) => "line",
         Call::Text(_) => "text",
         Call::Image(_) => "image",
+        Call::Count(_) => "count",
         Call::Ramp(..) => "ramp",
     }
 }
 
 fn operands(call: &Call) -> String {
     match call {
-        Call::Line(bytes) | Call::Text(bytes) => format!("{:?}", String::from_utf8_lossy(bytes)),
+        Call::Line(bytes) | Call::Text(bytes) | Call::Count(bytes) => format!("{:?}", String::from_utf8_lossy(bytes)),
         Call::Image(bytes) => format!("{bytes:02x?}"),
         Call::Ramp(_, [v, l, endless, n]) => format!("{v} {l} {endless} {n}"),
+    }
+}
+
+/// The answer as it is tallied: of a count how large it is, or what is refused.
+fn kind(call: &Call, answer: u64) -> String {
+    match (call, answer) {
+        (Call::Count(_), REFUSED..) => format!("count refused {}", answer - REFUSED),
+        (Call::Count(_), 1..=0xffff_ffff) => "count some".to_string(),
+        (Call::Count(_), 0x1_0000_0000..) => "count over 32 bits".to_string(),
+        _ => format!("{} {answer}", word(call)),
     }
 }
 
@@ -154,8 +166,8 @@ fn check_batch(program: &str, cases: &[Vec<Call>], tally: &mut Tally) -> bool {
         let wanted: Vec<u64> = case.iter().map(Call::answer).collect();
         let found: Vec<u64> = answers.by_ref().take(case.len()).collect();
         let short = found.len() < wanted.len();
-        let word = word(&case[0]);
-        tally.same(|| format!("{word} {}", operands(&case[0])), format!("{word} {}", wanted[0]), Answers(found), Answers(wanted));
+        let what = || format!("{} {}", word(&case[0]), operands(&case[0]));
+        tally.same(what, kind(&case[0], wanted[0]), Answers(found), Answers(wanted));
         if short {
             break;
         }
@@ -177,8 +189,28 @@ fn check_pace(mode: &Mode, tally: &mut Tally) {
 }
 
 /// Every answer that must have come.
-const KINDS: [&str; 13] =
-    ["line 0", "line 2", "line 3", "text 0", "text 1", "image 0", "image 1", "image 2", "ramp 0", "ramp 1", "ramp 2", "ramp 3", "pace"];
+const KINDS: [&str; 20] = [
+    "line 0",
+    "line 2",
+    "line 3",
+    "text 0",
+    "text 1",
+    "image 0",
+    "image 1",
+    "image 2",
+    "count 0",
+    "count some",
+    "count over 32 bits",
+    "count refused 2",
+    "count refused 3",
+    "count refused 4",
+    "count refused 5",
+    "ramp 0",
+    "ramp 1",
+    "ramp 2",
+    "ramp 3",
+    "pace",
+];
 
 fn main() {
     let mut words = std::env::args().skip(1);

@@ -383,6 +383,22 @@ impl Lines<'_> {
         }
     }
 
+    /// A body to be counted: any, or loops within loops, often with counts near
+    /// the bound or past 64 bits, and sometimes with a letter that is not counted.
+    pub fn counted(&mut self) -> Vec<u8> {
+        if self.random.chance(50) {
+            return self.body();
+        }
+        let depth = self.random.pick(&[0, 1, 2, 3, 4, 4, 4, 5]);
+        let mut text = "g".repeat(depth) + &"z0".repeat(self.random.under(60));
+        for _ in 0..depth {
+            let n = self.random.pick(&[1, 2, 29_999, 30_000, 30_000, 30_000]);
+            text += &format!("G{n}{}", "A1".repeat(self.random.under(3)));
+        }
+        text += self.random.pick(&["", "A1", "P2D3", "gG2", "HR", "D0", "R", "R", "R"]);
+        text.into_bytes()
+    }
+
     /// Bytes of any kind.
     pub fn noise(&mut self, bound: usize) -> Vec<u8> {
         let count = self.random.under(bound + 1);

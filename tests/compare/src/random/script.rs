@@ -89,6 +89,10 @@ const UNREADABLE: &[&str] = &[
     "line 4",
     "line zz",
     "line 41 35",
+    "count",
+    "count 4",
+    "count zz",
+    "count 41 35",
     "text",
     "text 4",
     "text 4g",
@@ -175,6 +179,7 @@ enum Choice {
     Frame,
     Unit,
     Line,
+    Count,
     Text,
     Ramp,
     Write,
@@ -192,6 +197,7 @@ enum Choice {
 /// What is sent beside frames and turns.
 const BESIDE: &[(u64, Choice)] = &[
     (16, Choice::Line),
+    (12, Choice::Count),
     (10, Choice::Text),
     (14, Choice::Ramp),
     (18, Choice::Write),
@@ -309,6 +315,7 @@ impl Round {
             Choice::Frame => self.frame(),
             Choice::Unit => b"unit".to_vec(),
             Choice::Line => with_hex("line", &self.lines().body()),
+            Choice::Count => with_hex("count", &self.lines().counted()),
             Choice::Text => with_hex("text", &self.lines().text()),
             Choice::Ramp => self.ramp(),
             Choice::Write => self.write(),
@@ -377,7 +384,7 @@ impl Round {
         });
         let word = match made.unwrap_or(0) {
             FEW..MANY => "run",
-            MANY.. if self.random.chance(97) => return self.turn(),
+            MANY.. if self.random.chance(90) => return self.turn(),
             MANY.. => "run",
             _ => self.random.pick(&["run", "timeline"]),
         };
@@ -691,7 +698,7 @@ impl Round {
 
 /// Whether the operation has bytes in hex digits.
 fn has_bytes(operation: &[u8]) -> bool {
-    let words = [&b"feed "[..], b"line ", b"text ", b"read ", b"image "];
+    let words = [&b"feed "[..], b"line ", b"text ", b"read ", b"count ", b"image "];
     words.iter().any(|word| operation.starts_with(word)) && !operation.ends_with(b"empty")
 }
 

@@ -1,0 +1,25 @@
+-- `forecast::forecast_claims`: each claim is a law, and the examples compute. Assumes nothing.
+use mathlib.Core.Path.{_≡_, refl}
+use Rattle.parts.specs.Parts.{part, same}
+use Rattle.digits.specs.Operand.{digitRun, valueAfter, operandOf, operandAt}
+use Rattle.commands.specs.Table.{table, find, asksOf, commandOf, oneOf, powerIn, exponentOf, within}
+use Rattle.commands.specs.Reading.{readAt}
+use Rattle.lines.specs.Texts.{readingIn, readingFrom, structured, lineJudged, storedJudged}
+use Rattle.lines.specs.Bodies.{immediates, immediateIn, bodyOf, endsWithR, textEnd, takenOf, lineOf, lineCode}
+use Rattle.lines.specs.Examples.{bytes}
+use Rattle.courses.specs.Meaning.{tailOf, courseOf, cost, courseIn, commandsIn}
+use Rattle.forecast.specs.Count.{anyBarred, countText, bodyText, countOf}
+use Rattle.forecast.specs.Examples.{examples, counts, given}
+use Rattle.forecast.proofs.ToldLaws.{told}
+use Rattle.forecast.proofs.forecast_claims.Statement.{statement}
+use Rattle.forecast.proofs.forecast_claims.Tie as tie
+
+edges : counts examples ≡ given examples
+unfolding examples counts given countOf countText bodyText anyBarred tailOf courseOf cost courseIn commandsIn bytes part lineCode bodyOf same immediates immediateIn endsWithR textEnd takenOf lineOf readingIn readingFrom structured lineJudged storedJudged readAt table find asksOf commandOf oneOf powerIn exponentOf within operandAt operandOf digitRun valueAfter
+edges = refl
+
+returns : tie.Need-returns
+returns c = record { told = told; edges = edges }
+
+pub forecast-claims-spec : {M : Type 1} → statement M
+forecast-claims-spec = tie.close (tie.spec returns)

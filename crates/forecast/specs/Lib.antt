@@ -1,0 +1,4 @@
+pub mod Count
+pub mod Pass
+pub mod Examples
+pub mod Claims
