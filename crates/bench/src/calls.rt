@@ -5,6 +5,7 @@ use crate::operation::Judge;
 use crate::state;
 use crate::telling;
 use answers::Found;
+use answers::Packet;
 use host::LineWritten;
 use lines::Slot;
 use ramp::Figures;
@@ -41,7 +42,7 @@ fn tell_text(good: bool, out: &mut [u8]) -> usize {
 
 // Status and data of a packet.
 fn tell_packet(bytes: &[u8], out: &mut [u8]) -> usize {
-    let p = answers::read_packet(bytes);
+    let p = read_either(bytes);
     let found = p.found;
     let Found::OnePacket = found else {
         return telling::add(out, 0, b"refused packet");
@@ -49,6 +50,17 @@ fn tell_packet(bytes: &[u8], out: &mut [u8]) -> usize {
     let at = telling::add(out, 0, b"packet ");
     let next = telling::add_hex(out, at, p.status as u64, 2);
     telling::add_bytes(out, next, b" ", fields::part(bytes, p.at, p.length))
+}
+
+// A packet read, in the OEM framing where it begins with 02.
+pub(crate) fn read_either(bytes: &[u8]) -> Packet {
+    if bytes.len() == 0 {
+        return answers::read_packet(bytes);
+    }
+    if bytes[0] == 2 {
+        return answers::read_oem_packet(bytes);
+    }
+    answers::read_packet(bytes)
 }
 
 // `ramp V L N`, `ramp V L endless`

@@ -17,6 +17,7 @@ pub(crate) enum Word {
     Ramp,
     Write,
     Read,
+    Oem,
     Help,
     Unknown,
 }
@@ -41,7 +42,8 @@ pub(crate) fn word_of(w: &[u8]) -> Word {
         13 => Word::Ramp,
         15 => Word::Write,
         16 => Word::Read,
-        18 => Word::Help,
+        17 => Word::Oem,
+        19 => Word::Help,
         _ => Word::Unknown,
     }
 }

@@ -8,8 +8,9 @@ use lib.ListN.{length}
 use lib.Dec.{ltb}
 use Rattle.parts.specs.Parts.{putIn}
 use Rattle.image.specs.Image.{rightLength}
-use Rattle.answers.specs.Packet.{packet, packetBytes}
+use Rattle.answers.specs.Packet.{packetBytes}
 use Rattle.frames.specs.declared.Frame.{Frame}
+use Rattle.frames.specs.declared.Framing.{Framing}
 use Rattle.turns.specs.declared.Core.{Core}
 use Rattle.turns.specs.declared.Enter.{Enter}
 use Rattle.turns.specs.declared.Stepped.{Stepped}
@@ -20,7 +21,7 @@ use Rattle.obeying.specs.Obeying.{textWritten, imageWritten}
 use Rattle.drive.specs.declared.FeedAnswer.{FeedAnswer}
 use Rattle.drive.specs.declared.TurnAnswer.{TurnAnswer}
 use Rattle.drive.specs.declared.TurnedCore.{TurnedCore}
-use Rattle.drive.specs.Calls.{answerFor, mostSample, noAction}
+use Rattle.drive.specs.Calls.{packetAs, answerFor, mostSample, noAction}
 
 -- ---- feed
 
@@ -34,15 +35,15 @@ pub record WrittenIs (w : Write) (body text image text′ image′ : List ℕ) :
   pub to-text : text′ ≡ textWritten w body text
   pub to-image : image′ ≡ imageWritten w body image
 
--- a packet at the front of a buffer with room for it: its length, and the buffer
-pub record PacketOf (status : ℕ) (bytes buffer : List ℕ) (n : ℕ) (buffer′ : List ℕ) : Type 0 where
-  pub answers : n ≡ length (packet status bytes)
-  pub leaves : buffer′ ≡ putIn buffer 0 (packet status bytes)
+-- a packet of a framing at the front of a buffer with room for it: its length, and the buffer
+pub record PacketOf (g : Framing) (status : ℕ) (bytes buffer : List ℕ) (n : ℕ) (buffer′ : List ℕ) : Type 0 where
+  pub answers : n ≡ length (packetAs g status bytes)
+  pub leaves : buffer′ ≡ putIn buffer 0 (packetAs g status bytes)
 
 -- what answers a frame: the length, and the buffer
-pub record AnsweredIs (frame : Frame) (o : Obeyed) (text buffer : List ℕ) (n : ℕ) (after : List ℕ) : Type 0 where
-  pub answers : n ≡ length (answerFor frame o text)
-  pub leaves : after ≡ putIn buffer 0 (answerFor frame o text)
+pub record AnsweredIs (frame : Frame) (g : Framing) (o : Obeyed) (text buffer : List ℕ) (n : ℕ) (after : List ℕ) : Type 0 where
+  pub answers : n ≡ length (answerFor frame g o text)
+  pub leaves : after ≡ putIn buffer 0 (answerFor frame g o text)
 
 -- ---- turn
 

@@ -1,6 +1,9 @@
+pub mod Bools
 pub mod Steps
 pub mod Addresses
 pub mod Stream
+pub mod Oem
 pub mod Foreign
 pub mod Bodies
+pub mod Alike
 pub mod Once
