@@ -94,7 +94,7 @@ empty-tells : (c : Core) → Tellings c (bodyObeyed [] c)
 unfolding bodyObeyed bodyOf table.oneOf same
 empty-tells c = record { told = Tell.Nothing; tells = refl }
 
-chosen-is : (last : Last) (g : Framing) (body : List ℕ) → isRepeat last g ≡ true → chosen last g body ≡ cond (isQuery body) body []
+pub chosen-is : (last : Last) (g : Framing) (body : List ℕ) → isRepeat last g ≡ true → chosen last g body ≡ cond (isQuery body) body []
 unfolding chosen
 chosen-is last g body e = rw e
 
@@ -146,7 +146,7 @@ repeats-tell u bytes image buffer h e =
 
 -- ---- either framing
 
-chosen-not : (last : Last) (g : Framing) (body : List ℕ) → isRepeat last g ≡ false → chosen last g body ≡ body
+pub chosen-not : (last : Last) (g : Framing) (body : List ℕ) → isRepeat last g ≡ false → chosen last g body ≡ body
 unfolding chosen
 chosen-not last g body e = rw e
 
