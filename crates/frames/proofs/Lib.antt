@@ -1,5 +1,6 @@
 pub mod Bools
 pub mod Steps
+pub mod Runs
 pub mod Addresses
 pub mod Stream
 pub mod Oem

@@ -1,11 +1,13 @@
 // The receiver of one unit: the frames for it and its groups, in both framings, out of the bytes of the line. 01, "Frames"; 02, E1.
 ghost use mathlib.Core.Path.{_≡_};
 ghost use mathlib.Core.List.{List};
-ghost use Prim.Native.Nat.{ℕ};
+ghost use Prim.Native.Nat.{ℕ, _<_};
+ghost use mathlib.Core.Bool.{true};
+ghost use lib.ListN.{length};
 ghost use Rattle.frames.specs.Addresses.{calledOf};
 ghost use Rattle.frames.specs.Receive.{obeyed, receiverAt, receiverOf, heardWith, freshProgress, quiet, finished, begun, stored, closed};
 ghost use Rattle.frames.specs.Receive.{heard, begunOem, begins, elsewhere, taken, stepOf, receiveOf};
-ghost use Rattle.frames.specs.Pieces.{completed, inPlain, quietAt, wholeOf, steppedAt};
+ghost use Rattle.frames.specs.Pieces.{completed, isOutside, leavesBody, inPlain, quietAt, wholeOf, steppedAt, Advances};
 ghost use Rattle.frames.specs.declared.Place.{Place};
 ghost use Rattle.frames.specs.Claims.{FrameClaims};
 
@@ -106,9 +108,9 @@ pub fn receive(p: Progress, body: &mut [u8; MOST_KEPT], unit: u8, bytes: &[u8]) 
     };
     let mut i: usize = 0;
     while i < bytes.len() {
-        let b = bytes[i];
-        h = step(h, body, unit, b);
-        i += 1;
+        let a = advance(h, body, unit, bytes, i);
+        h = a.head;
+        i = a.next;
         let f = h.frame;
         if ends(f) {
             let g = h.framing;
@@ -124,6 +126,12 @@ struct Head {
     length: usize,
     frame: Frame,
     framing: Framing,
+}
+
+// Where it is after some bytes, and the place of the next one.
+struct Advanced {
+    head: Head,
+    next: usize,
 }
 
 // What a feed call answers where it ends at h.
@@ -154,15 +162,85 @@ fn ends(f: Frame) -> bool
     }
 }
 
-// What one byte makes of the receiver. Most bytes stand in a plain body, so this is asked first.
-fn step(h: Head, body: &mut [u8; MOST_KEPT], unit: u8, b: u8) -> Head
-    ensures { λ s. ⌜ steppedAt s (now (body .exit)) ≡ stepOf (wholeOf h (now (body .entry))) unit b ⌝ }
+// One byte more, or many at once: most stand in a plain body or outside a frame.
+fn advance(h: Head, body: &mut [u8; MOST_KEPT], unit: u8, bytes: &[u8], i: usize) -> Advanced
+    requires { ⌜ i < length (now bytes) ⌝ }
+    ensures { λ a. ⌜ Advances (wholeOf h (now (body .entry))) unit (now (bytes .entry)) i a (now (body .exit)) ⌝ }
 {
     let place = h.place;
     let length = h.length;
     if inside(place) {
-        return in_body(place, length, body, b);
+        return keep(place, length, body, bytes, i);
     }
+    if outside(place) {
+        return look_out(length, bytes, i);
+    }
+    let b = bytes[i];
+    Advanced {
+        head: step(place, length, body, unit, b),
+        next: i + 1,
+    }
+}
+
+// The bytes of a plain body, up to and with the one that ends it.
+fn keep(place: Place, kept: usize, body: &mut [u8; MOST_KEPT], bytes: &[u8], i: usize) -> Advanced
+    requires { ⌜ (i < length (now bytes)) × (obeyed (completed place) ≡ true) ⌝ }
+    ensures { λ a. ⌜ ((u : ℕ) → Advances (receiverAt place kept (now (body .entry))) u (now (bytes .entry)) i a (now (body .exit))) ⌝ }
+{
+    let mut n = kept;
+    let mut next = i;
+    while next < bytes.len() {
+        let b = bytes[next];
+        next += 1;
+        if leaves(b) {
+            return Advanced {
+                head: leave(completes(place), n, b),
+                next,
+            };
+        }
+        if n < MOST_KEPT {
+            body[n] = b;
+            n += 1;
+        }
+    }
+    Advanced {
+        head: at(place, n),
+        next,
+    }
+}
+
+// The bytes outside a frame, up to and with the one that begins one.
+fn look_out(kept: usize, bytes: &[u8], i: usize) -> Advanced
+    requires { ⌜ i < length (now bytes) ⌝ }
+    ensures { λ a. ⌜ ((u : ℕ) (body : List ℕ) → Advances (receiverAt Place.Outside kept body) u (now (bytes .entry)) i a body) ⌝ }
+{
+    let mut next = i;
+    while next < bytes.len() {
+        let b = bytes[next];
+        next += 1;
+        if b == SLASH {
+            return Advanced {
+                head: at(Place::Address, kept),
+                next,
+            };
+        }
+        if b == STX {
+            return Advanced {
+                head: at(Place::OemAddress, kept),
+                next,
+            };
+        }
+    }
+    Advanced {
+        head: at(Place::Outside, kept),
+        next,
+    }
+}
+
+// What one byte makes of the receiver.
+fn step(place: Place, length: usize, body: &mut [u8; MOST_KEPT], unit: u8, b: u8) -> Head
+    ensures { λ s. ⌜ steppedAt s (now (body .exit)) ≡ stepOf (receiverAt place length (now (body .entry))) unit b ⌝ }
+{
     if opens(SLASH, place, b) {
         return at(Place::Address, length);
     }
@@ -223,6 +301,22 @@ fn inside(p: Place) -> bool
     ends(completes(p))
 }
 
+// Whether it stands outside a frame.
+fn outside(p: Place) -> bool
+    ensures { λ r. ⌜ r ≡ isOutside p ⌝ }
+{
+    match p {
+        Place::Outside => true,
+        Place::Address => false,
+        Place::Alone => false,
+        Place::Group => false,
+        Place::OemAddress => false,
+        Place::OemSequence(_, _) => false,
+        Place::OemBody(_, _, _) => false,
+        Place::OemSum(_, _, _) => false,
+    }
+}
+
 // The receiver there, and nothing completed.
 fn at(place: Place, length: usize) -> Head
     ensures { λ s. ⌜ s ≡ quietAt place length ⌝ }
@@ -272,11 +366,23 @@ fn completes(p: Place) -> Frame
     }
 }
 
-// In a plain body: a new frame, its CR, or one byte more.
-fn in_body(place: Place, length: usize, body: &mut [u8; MOST_KEPT], b: u8) -> Head
-    ensures { λ s. ⌜
-        steppedAt s (now (body .exit)) ≡ inPlain (completed place) b (receiverAt place length (now (body .entry)))
-        ⌝ }
+// Whether a byte ends a plain body: a new frame, or the CR.
+fn leaves(b: u8) -> bool
+    ensures { λ r. ⌜ r ≡ leavesBody b ⌝ }
+{
+    if b == SLASH {
+        return true;
+    }
+    if b == CR {
+        return true;
+    }
+    b == STX
+}
+
+// What such a byte makes of the receiver in the body of a frame for w.
+fn leave(w: Frame, length: usize, b: u8) -> Head
+    requires { ⌜ leavesBody b ≡ true ⌝ }
+    ensures { λ s. ⌜ ((p : Place) (body : List ℕ) → steppedAt s body ≡ inPlain w b (receiverAt p length body)) ⌝ }
 {
     if b == SLASH {
         return at(Place::Address, length);
@@ -284,7 +390,7 @@ fn in_body(place: Place, length: usize, body: &mut [u8; MOST_KEPT], b: u8) -> He
     if b == STX {
         return at(Place::OemAddress, length);
     }
-    add(completes(place), place, length, body, b)
+    finish(w, Framing::Plain, length)
 }
 
 // The CR of a frame for w, or one byte more.
