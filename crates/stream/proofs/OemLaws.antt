@@ -15,10 +15,10 @@ use Rattle.lines.specs.declared.Immediate.{Immediate}
 use Rattle.lines.specs.declared.Immediate.the-variants.{Terminate, Status, CurrentText, Position, Speed, Sample, StepSize, Correction, Clear}
 use Rattle.lines.specs.declared.Body.{Body}
 use Rattle.lines.specs.Bodies.{bodyOf}
-use Rattle.image.specs.Image.{rightLength}
+use Rattle.image.specs.Image.{rightLength, slots, slotsGood}
 use Rattle.frames.specs.declared.Frame.{Frame}
 use Rattle.frames.specs.declared.Framing.{Framing}
-use Rattle.frames.specs.Addresses.{calledOf}
+use Rattle.frames.specs.Addresses.{isUnit, calledOf}
 use Rattle.frames.specs.declared.Place.{Place}
 use Rattle.frames.specs.Receive.{Receiver, Received, bodyIn, cr, etx, mostKept, obeyed, good, elsewhere, past}
 use Rattle.frames.specs.Claims.{Sound, SameBody, Same, free, frameOf, oemOf, sumOf}
@@ -32,7 +32,7 @@ use Rattle.drive.specs.declared.FeedAnswer.{FeedAnswer}
 use Rattle.drive.specs.declared.Last.{Last}
 use Rattle.drive.specs.Unit.{Drive}
 use Rattle.drive.specs.Repeats.{numberIn, repeats, isRepeat, asks, kindAsks, isQuery, chosen, isRefusal, numberedBy, lastAfter}
-use Rattle.drive.specs.Calls.{receivedBy, frameObeyed, bodyBy, obeyedBy, textThen, answerTo, answerFor, Feeding, feedTaken, feedOf}
+use Rattle.drive.specs.Calls.{Starting, freshUnit, noUnit, startOf, mostSample, Turning, turnOf, receivedBy, frameObeyed, bodyBy, obeyedBy, textThen, answerTo, answerFor, Feeding, feedTaken, feedOf}
 use Rattle.drive.proofs.FeedLaws.{put-nothing}
 use Rattle.stream.specs.Oem.{movedTo, Heeded, SkippedBy, PassesOver, RepeatedBy, SameAnswer, SameDeed}
 
@@ -298,3 +298,20 @@ plain-leaves u bytes image buffer e =
   where
     Q : Feeding → Type 0
     Q x = x .unit .last ≡ u .last
+
+-- a start that is refused leaves no unit, and no number
+pub none-at-start : (number : ℕ) (image body text : List ℕ) → startOf number image body text .unit .last ≡ Last.Never
+unfolding startOf freshUnit noUnit
+none-at-start number image body text =
+    cases Q (isUnit number) (λ n. cases Q (rightLength image) (λ l. cases Q (slotsGood image slots) (λ g. refl) (λ g. refl)) (λ l. refl)) (λ n. refl)
+  where
+    Q : Starting → Type 0
+    Q s = s .unit .last ≡ Last.Never
+
+pub turn-leaves : (u : Drive) (sample ms steps : ℕ) (image : List ℕ) → turnOf u sample ms steps image .unit .last ≡ u .last
+unfolding turnOf
+turn-leaves u sample ms steps image =
+    cases Q (rightLength image) (λ i. cases Q (ltb mostSample sample) (λ s. refl) (λ s. cases Q (ltb (u .core .motor .last .number) steps) (λ k. refl) (λ k. refl))) (λ i. refl)
+  where
+    Q : Turning → Type 0
+    Q t = t .unit .last ≡ u .last

@@ -21,7 +21,7 @@ use Rattle.drive.specs.declared.FeedAnswer.{FeedAnswer}
 use Rattle.drive.specs.declared.Last.{Last}
 use Rattle.drive.specs.Unit.{Drive, drive}
 use Rattle.drive.specs.Repeats.{numberIn, isRepeat, isQuery, isRefusal}
-use Rattle.drive.specs.Calls.{receivedBy, frameObeyed, obeyedBy, Feeding, feedOf}
+use Rattle.drive.specs.Calls.{startOf, receivedBy, frameObeyed, obeyedBy, Feeding, feedOf, turnOf}
 
 -- the unit with another receiver
 abbrev pub movedTo : Receiver → Drive → Drive
@@ -101,5 +101,8 @@ pub record OemClaims : Type 0 where
   pub numbers : (u : Drive) (bytes image buffer : List ℕ) (q : ℕ) → Heeded image buffer → obeyed (receivedBy u bytes .frame) ≡ true
       → receivedBy u bytes .framing ≡ Framing.Oem q
       → feedOf u bytes image buffer .unit .last ≡ cond (isRefusal (obeyedBy u bytes .code)) (u .last) (Last.Number (numberIn q))
+  -- "(at start there is none)"; plain frames and turns leave it
+  pub none-at-start : (number : ℕ) (image body text : List ℕ) → startOf number image body text .unit .last ≡ Last.Never
   pub plain-leaves : (u : Drive) (bytes image buffer : List ℕ) → receivedBy u bytes .framing ≡ Framing.Plain
       → feedOf u bytes image buffer .unit .last ≡ u .last
+  pub turn-leaves : (u : Drive) (sample ms steps : ℕ) (image : List ℕ) → turnOf u sample ms steps image .unit .last ≡ u .last
