@@ -32,6 +32,7 @@ use Rattle.runs.proofs.CallLaws.{turn-cases}
 use Rattle.runs.proofs.ReachLaws.{reached-keeps, reached-sound, reached-fit}
 use Rattle.runs.proofs.PacketLaws.{answer-is}
 use Rattle.claims.specs.Joined.{Typed, Typing, Joined}
+use Rattle.claims.proofs.HeldLaws.{held-code, sets-number}
 
 -- ---- the receiver and the number
 
@@ -122,6 +123,8 @@ module _ (frames : FrameClaims) where
     fits = reached-keeps (calls-keep fits-kept) r;
     sound = reached-ready r .0;
     numbered = reached-ready r .1;
+    held-code = held-code r;
+    sets-number = sets-number r;
     typed = typed r;
     typed-oem = λ q body image buffer t g f e. oem-heard r q body body image buffer t g f (chosen-not (u .last) (Framing.Oem q) body e);
     repeated = λ q body image buffer t g f e. oem-heard r q (cond (isQuery body) body []) body image buffer t g f (chosen-is (u .last) (Framing.Oem q) body e);

@@ -5,20 +5,25 @@ use mathlib.Core.Path.{_≡_}
 use mathlib.Core.List.{List, []}
 use mathlib.Core.Bool.{true, false, not, cond}
 use lib.ListN.{length}
+use Rattle.commands.specs.Table.{oneOf}
 use Rattle.lines.specs.Texts.{mostBytes}
 use Rattle.image.specs.Image.{rightLength}
 use Rattle.frames.specs.declared.Framing.{Framing}
 use Rattle.frames.specs.Addresses.{isUnit, unitByte}
-use Rattle.frames.specs.Receive.{cr, etx, good, elsewhere}
+use Rattle.frames.specs.Receive.{cr, etx, obeyed, good, elsewhere}
 use Rattle.frames.specs.Claims.{Sound, free, frameOf, oemOf, sumOf}
 use Rattle.answers.specs.Packet.{packetBytes, statusOf}
 use Rattle.obeying.specs.Obeying.{bodyObeyed}
 use Rattle.drive.specs.Unit.{Drive}
-use Rattle.drive.specs.Repeats.{isRepeat, isQuery}
-use Rattle.drive.specs.Calls.{packetAs, Feeding, feedOf}
+use Rattle.drive.specs.declared.Last.{Last}
+use Rattle.drive.specs.Repeats.{numberIn, isRepeat, isQuery}
+use Rattle.drive.specs.Calls.{receivedBy, packetAs, Feeding, feedOf}
 use Rattle.stream.specs.Fits.{Fits}
+use Rattle.stream.specs.Oem.{Heeded}
+use Rattle.runs.specs.Causes.{causeCodes}
 use Rattle.runs.specs.Packets.{answeredBy}
 use Rattle.effects.specs.Bodies.{coreBy, textBy, imageBy, dataBy}
+use Rattle.claims.specs.Demand1.{frameCode}
 
 -- a frame for this unit alone, the body of it that is obeyed, and the packet that answers it in the frame's framing
 pub record Typed (u : Drive) (framing : Framing) (body bytes image buffer : List ℕ) (r : Feeding) : Type 0 where
@@ -40,6 +45,8 @@ pub record Joined (u : Drive) : Type 0 where
   pub fits : Fits u
   pub sound : Sound (u .receiver)
   pub numbered : isUnit (u .number) ≡ true
+  -- "all others carry the held code": that of a cause, and no code of a refused frame
+  pub held-code : oneOf causeCodes (u .core .code) ≡ true
   -- "A frame is `/`, an address byte, a body, CR"
   pub typed : (body image buffer : List ℕ) → Typing u body image buffer → free cr body ≡ true
       → let bytes = frameOf (unitByte (u .number)) body in
@@ -54,3 +61,7 @@ pub record Joined (u : Drive) : Type 0 where
       → isRepeat (u .last) (Framing.Oem q) ≡ true
       → let bytes = oemOf (unitByte (u .number)) q body (sumOf (unitByte (u .number)) q body) in
       Typed u (Framing.Oem q) (cond (isQuery body) body []) bytes image buffer (feedOf u bytes image buffer)
+  -- "the number of the last OEM frame for this unit or its groups not refused": one that the order of checks takes sets it; a refused one
+  -- leaves it (`FeedRow`), as do plain and skipped frames
+  pub sets-number : (bytes image buffer : List ℕ) (q : ℕ) → Heeded image buffer → obeyed (receivedBy u bytes .frame) ≡ true
+      → receivedBy u bytes .framing ≡ Framing.Oem q → frameCode u bytes ≡ 0 → feedOf u bytes image buffer .unit .last ≡ Last.Number (numberIn q)

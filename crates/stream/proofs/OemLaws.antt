@@ -1,38 +1,40 @@
 -- What 02 says of OEM frames: a skipped one completes nothing; of a repeat only a query or an empty body is obeyed, and neither changes the
 -- unit; and what is obeyed is read off the body alone. Assumes nothing.
-use Prim.Native.Nat.{ℕ, _≤_}
+use Prim.Native.Nat.{ℕ, _+_, _≤_}
 use mathlib.Core.Path.{_≡_, refl, sym, ap, _∙_}
-use mathlib.Core.List.{List, [], _∷_}
-use mathlib.Core.Bool.{Bool, true, false, cond, _&&_, and-eq-true-iff, true≢false}
+use mathlib.Core.List.{List, [], _∷_, _++_}
+use mathlib.Core.Bool.{Bool, true, false, cond, not, _&&_, and-eq-true-iff, true≢false}
 use lib.ListN.{length, take}
 use lib.Dec.{ltb, eqb}
 use borrow.Author.Tests.{le-ltb, eqb-true}
-use Rattle.parts.specs.Parts.{same}
+use Rattle.parts.specs.Parts.{same, putIn}
 use Rattle.parts.proofs.Laws.{cases}
-use Rattle.answers.specs.Packet.{packetBytes}
+use Rattle.answers.specs.Packet.{packetBytes, statusOf}
 use Rattle.commands.specs.Table as table
 use Rattle.lines.specs.declared.Immediate.{Immediate}
 use Rattle.lines.specs.declared.Immediate.the-variants.{Terminate, Status, CurrentText, Position, Speed, Sample, StepSize, Correction, Clear}
 use Rattle.lines.specs.declared.Body.{Body}
 use Rattle.lines.specs.Bodies.{bodyOf}
-use Rattle.image.specs.Image.{rightLength}
+use Rattle.image.specs.Image.{rightLength, slots, slotsGood}
 use Rattle.frames.specs.declared.Frame.{Frame}
 use Rattle.frames.specs.declared.Framing.{Framing}
-use Rattle.frames.specs.Addresses.{calledOf}
-use Rattle.frames.specs.Receive.{Received, bodyIn, cr, etx, mostKept, obeyed, good, elsewhere}
-use Rattle.frames.specs.Claims.{Sound, free, frameOf, oemOf, sumOf}
+use Rattle.frames.specs.Addresses.{isUnit, calledOf}
+use Rattle.frames.specs.declared.Place.{Place}
+use Rattle.frames.specs.Receive.{Receiver, Received, bodyIn, cr, etx, mostKept, obeyed, good, elsewhere, past}
+use Rattle.frames.specs.Claims.{Sound, SameBody, Same, free, frameOf, oemOf, sumOf}
 use Rattle.frames.proofs.Bodies.{whole, whole-oem, wrong-sum}
+use Rattle.frames.proofs.Alike.{as-if-not-come}
 use Rattle.turns.specs.declared.Core.{Core}
 use Rattle.obeying.specs.declared.Tell.{Tell}
 use Rattle.obeying.specs.declared.Obeyed.{Obeyed}
-use Rattle.obeying.specs.Obeying.{telling, silent, immediateObeyed, kindObeyed, bodyObeyed, textWritten, imageWritten}
+use Rattle.obeying.specs.Obeying.{telling, silent, immediateObeyed, kindObeyed, bodyObeyed, dataOf, textWritten, imageWritten}
 use Rattle.drive.specs.declared.FeedAnswer.{FeedAnswer}
 use Rattle.drive.specs.declared.Last.{Last}
 use Rattle.drive.specs.Unit.{Drive}
 use Rattle.drive.specs.Repeats.{numberIn, repeats, isRepeat, asks, kindAsks, isQuery, chosen, isRefusal, numberedBy, lastAfter}
-use Rattle.drive.specs.Calls.{receivedBy, frameObeyed, bodyBy, obeyedBy, Feeding, feedTaken, feedOf}
+use Rattle.drive.specs.Calls.{Starting, freshUnit, noUnit, startOf, mostSample, Turning, turnOf, receivedBy, frameObeyed, bodyBy, obeyedBy, textThen, answerTo, answerFor, Feeding, feedTaken, feedOf}
 use Rattle.drive.proofs.FeedLaws.{put-nothing}
-use Rattle.stream.specs.Oem.{movedTo, Heeded, SkippedBy, RepeatedBy, SameDeed}
+use Rattle.stream.specs.Oem.{movedTo, Heeded, SkippedBy, PassesOver, RepeatedBy, SameAnswer, SameDeed}
 
 -- ---- a call that is not refused
 
@@ -58,6 +60,44 @@ skips u a q body c image buffer h l f n =
       outside = s .leaves;
       feeds = feed-is u bytes image buffer h ∙ taken-nothing (receivedBy u bytes) (bodyBy u bytes) u image buffer (length bytes) (s .nothing) (s .consumes);
     }
+
+-- what a call makes is read off the frame, the framing and the body; the receiver and the count are beside it
+abbrev made : Drive → List ℕ → List ℕ → Receiver → ℕ → Frame → Framing → List ℕ → Feeding
+made u image buffer r n f g b =
+    feedTaken (record { receiver = r; consumed = n; frame = f; framing = g }) (chosen (u .last) g b) (frameObeyed f (chosen (u .last) g b) (u .core)) u image buffer
+
+made-alike : (u : Drive) (image buffer : List ℕ) (r : Receiver) (n : ℕ) (f : Frame) (g : Framing) (b b′ : List ℕ) → (obeyed f ≡ true → b ≡ b′)
+    → made u image buffer r n f g b ≡ made u image buffer r n f g b′
+made-alike u image buffer r n Frame.Nothing g b b′ e = refl
+made-alike u image buffer r n Frame.Alone g b b′ e = ap (λ (x : List ℕ). made u image buffer r n Frame.Alone g x) (e refl)
+made-alike u image buffer r n Frame.Group g b b′ e = ap (λ (x : List ℕ). made u image buffer r n Frame.Group g x) (e refl)
+
+body-same : {r t : Receiver} → SameBody r t → bodyIn r ≡ bodyIn t
+body-same {t = t} s = s .bytes ∙ ap (λ (n : ℕ). take n (t .body)) (s .long)
+
+pub goes-on : (u : Drive) (a q : ℕ) (body : List ℕ) (c : ℕ) (ys image buffer : List ℕ) → Heeded image buffer → Sound (u .receiver)
+    → u .receiver .place ≡ Place.Outside → free etx (a ∷ q ∷ body) ≡ true → (c ≡ sumOf a q body → ⊥)
+    → PassesOver u (length (oemOf a q body c)) (oemOf a q body c ++ ys) ys image buffer
+goes-on u a q body c ys image buffer h s o f n =
+    let xs = oemOf a q body c ++ ys in
+    let x : Received = receivedBy u xs in
+    let y : Received = receivedBy u ys in
+    let n′ : ℕ = length (oemOf a q body c) + y .consumed in
+    let k : Same x (past (length (oemOf a q body c)) y) = as-if-not-come (u .receiver) (u .number) a q body c ys s o f n in
+    record {
+      receiver = x .receiver;
+      alike = rw (feed-is u ys image buffer h) (k .alike);
+      feeds =
+          feed-is u xs image buffer h
+          ∙ ap (λ (m : ℕ). made u image buffer (x .receiver) m (x .frame) (x .framing) (bodyIn (x .receiver))) (k .count)
+          ∙ made-alike u image buffer (x .receiver) n′ (x .frame) (x .framing) (bodyIn (x .receiver)) (bodyIn (y .receiver)) (λ e. body-same (k .body e))
+          ∙ ap (λ (w : Frame). made u image buffer (x .receiver) n′ w (x .framing) (bodyIn (y .receiver))) (k .frame)
+          ∙ ap (λ (g : Framing). made u image buffer (x .receiver) n′ (y .frame) g (bodyIn (y .receiver))) (k .framing)
+          ∙ sym (ap (λ (z : Feeding). passing (x .receiver) (length (oemOf a q body c)) z) (feed-is u ys image buffer h));
+    }
+  where
+    passing : Receiver → ℕ → Feeding → Feeding
+    passing r m z = record { answer = z .answer; unit = movedTo r (z .unit); consumed = m + z .consumed; answered = z .answered; image = z .image; buffer = z .buffer }
 
 -- ---- a repeat
 
@@ -160,7 +200,39 @@ obeyed-is : (u : Drive) (bytes : List ℕ) (kind : Frame) (body : List ℕ) → 
 obeyed-is u bytes kind body f b =
     ap (λ (k : Frame). frameObeyed k (bodyBy u bytes) (u .core)) f ∙ ap (λ (x : List ℕ). frameObeyed kind x (u .core)) b
 
-module _ (u : Drive) (xs ys image buffer : List ℕ) (h : Heeded image buffer) (b : bodyBy u xs ≡ bodyBy u ys) (o : obeyedBy u xs ≡ obeyedBy u ys) where
+module _ (u : Drive) (q : ℕ) (xs ys image buffer : List ℕ) (h : Heeded image buffer) (kinds : receivedBy u xs .frame ≡ receivedBy u ys .frame)
+    (plain : receivedBy u xs .framing ≡ Framing.Plain) (oem : receivedBy u ys .framing ≡ Framing.Oem q) (b : bodyBy u xs ≡ bodyBy u ys)
+    (o : obeyedBy u xs ≡ obeyedBy u ys) where
+  -- the text that the plain frame leaves, and what each is answered with
+  abbrev left : List ℕ
+  left = textThen (bodyBy u xs) (obeyedBy u xs) (u .text)
+
+  abbrev answerBy : List ℕ → List ℕ
+  answerBy bytes =
+      answerFor (receivedBy u bytes .frame) (receivedBy u bytes .framing) (obeyedBy u bytes) (textThen (bodyBy u bytes) (obeyedBy u bytes) (u .text))
+
+  plain-is : receivedBy u xs .frame ≡ Frame.Alone → answerBy xs ≡ answerTo Framing.Plain (obeyedBy u xs) left
+  plain-is e =
+      ap (λ (f : Frame). answerFor f (receivedBy u xs .framing) (obeyedBy u xs) left) e ∙ ap (λ (g : Framing). answerTo g (obeyedBy u xs) left) plain
+
+  oem-is : receivedBy u xs .frame ≡ Frame.Alone → answerBy ys ≡ answerTo (Framing.Oem q) (obeyedBy u xs) left
+  oem-is e =
+      ap (λ (f : Frame). answerFor f (receivedBy u ys .framing) (obeyedBy u ys) (textThen (bodyBy u ys) (obeyedBy u ys) (u .text))) (sym kinds ∙ e)
+      ∙ ap (λ (g : Framing). answerTo g (obeyedBy u ys) (textThen (bodyBy u ys) (obeyedBy u ys) (u .text))) oem
+      ∙ ap (λ (x : Obeyed). answerTo (Framing.Oem q) x (textThen (bodyBy u ys) x (u .text))) (sym o)
+      ∙ ap (λ (x : List ℕ). answerTo (Framing.Oem q) (obeyedBy u xs) (textThen x (obeyedBy u xs) (u .text))) (sym b)
+
+  answers-alike : receivedBy u xs .frame ≡ Frame.Alone → SameAnswer u xs ys image buffer
+  unfolding answerTo
+  answers-alike e = record {
+    status = statusOf (not (obeyedBy u xs .core .running)) (obeyedBy u xs .code);
+    told = dataOf (obeyedBy u xs .tell) (obeyedBy u xs .core .flow .length) left;
+    plain-length = ap (λ (x : Feeding). x .answered) (feed-is u xs image buffer h) ∙ ap length (plain-is e);
+    plain-packet = ap (λ (x : Feeding). x .buffer) (feed-is u xs image buffer h) ∙ ap (putIn buffer 0) (plain-is e);
+    oem-length = ap (λ (x : Feeding). x .answered) (feed-is u ys image buffer h) ∙ ap length (oem-is e);
+    oem-packet = ap (λ (x : Feeding). x .buffer) (feed-is u ys image buffer h) ∙ ap (putIn buffer 0) (oem-is e);
+  }
+
   alike : SameDeed u xs ys image buffer
   alike =
       let f = feed-is u xs image buffer h in
@@ -178,6 +250,7 @@ module _ (u : Drive) (xs ys image buffer : List ℕ) (h : Heeded image buffer) (
             ∙ ap (λ (x : List ℕ). imageWritten (obeyedBy u ys .write) x image) b
             ∙ sym (ap (λ (x : Feeding). x .image) g);
         obeyed-same = o;
+        answered-same = answers-alike;
       }
 
 pub same-deed : (u : Drive) (a q : ℕ) (body image buffer : List ℕ) → Heeded image buffer → Sound (u .receiver) → elsewhere (u .receiver .place) ≡ true
@@ -193,7 +266,7 @@ same-deed u a q body image buffer h s l k g f e n =
     let bx : bodyBy u xs ≡ kept = body-is u xs Framing.Plain kept (p .framed) (p .keeps) refl in
     let by : bodyBy u ys ≡ kept = body-is u ys (Framing.Oem q) kept (m .framed) (m .keeps) n in
     let kind = calledOf (u .number) a in
-    alike u xs ys image buffer h (bx ∙ sym by) (obeyed-is u xs kind kept (p .completes) bx ∙ sym (obeyed-is u ys kind kept (m .completes) by))
+    alike u q xs ys image buffer h (p .completes ∙ sym (m .completes)) (p .framed) (m .framed) (bx ∙ sym by) (obeyed-is u xs kind kept (p .completes) bx ∙ sym (obeyed-is u ys kind kept (m .completes) by))
 
 -- ---- the number
 
@@ -225,3 +298,20 @@ plain-leaves u bytes image buffer e =
   where
     Q : Feeding → Type 0
     Q x = x .unit .last ≡ u .last
+
+-- a start that is refused leaves no unit, and no number
+pub none-at-start : (number : ℕ) (image body text : List ℕ) → startOf number image body text .unit .last ≡ Last.Never
+unfolding startOf freshUnit noUnit
+none-at-start number image body text =
+    cases Q (isUnit number) (λ n. cases Q (rightLength image) (λ l. cases Q (slotsGood image slots) (λ g. refl) (λ g. refl)) (λ l. refl)) (λ n. refl)
+  where
+    Q : Starting → Type 0
+    Q s = s .unit .last ≡ Last.Never
+
+pub turn-leaves : (u : Drive) (sample ms steps : ℕ) (image : List ℕ) → turnOf u sample ms steps image .unit .last ≡ u .last
+unfolding turnOf
+turn-leaves u sample ms steps image =
+    cases Q (rightLength image) (λ i. cases Q (ltb mostSample sample) (λ s. refl) (λ s. cases Q (ltb (u .core .motor .last .number) steps) (λ k. refl) (λ k. refl))) (λ i. refl)
+  where
+    Q : Turning → Type 0
+    Q t = t .unit .last ≡ u .last

@@ -644,7 +644,8 @@ impl Round {
         bytes.extend((0..length).map(|_| 0x20 + self.random.below(0x5f) as u8));
         bytes.push(0x03);
         if oem {
-            bytes.push(checksum(&bytes));
+            let flipped = if self.random.chance(10) { 1 << self.random.below(8) } else { 0 };
+            bytes.push(checksum(&bytes) ^ flipped);
         } else {
             bytes.extend(b"\r\n");
         }
