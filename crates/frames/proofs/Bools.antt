@@ -31,3 +31,7 @@ none-of true t e rest h = absurd (true≢false (sym h))
 none-of false true e rest h = absurd (true≢false (sym h))
 none-of false false true rest h = absurd (true≢false (sym h))
 none-of false false false rest h = (refl, refl, refl, h)
+
+pub not-not : (t : Bool) → not (not t) ≡ t
+not-not true = refl
+not-not false = refl

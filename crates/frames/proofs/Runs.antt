@@ -18,19 +18,19 @@ none-of true b c h = absurd (true≢false h)
 none-of false true c h = absurd (true≢false h)
 none-of false false c h = (refl, refl, h)
 
-second-of : (a b c : Bool) → a ≡ false → c ≡ false → a || (b || c) ≡ true → b ≡ true
-second-of a true c x z h = refl
-second-of a false c x z h = absurd (true≢false (sym h ∙ rw (x, z)))
+first-of : (a b c : Bool) → b ≡ false → c ≡ false → a || (b || c) ≡ true → a ≡ true
+first-of true b c y z h = refl
+first-of false b c y z h = absurd (true≢false (sym h ∙ rw (y, z)))
 
 -- a byte that leaves a body and begins no frame is the CR
 pub leaves-cr : (b : ℕ) → eqb b slash ≡ false → eqb b stx ≡ false → leavesBody b ≡ true → eqb b cr ≡ true
-leaves-cr b s t h = second-of (eqb b slash) (eqb b cr) (eqb b stx) s t h
+leaves-cr b s t h = first-of (eqb b cr) (eqb b stx) (eqb b slash) t s h
 
 stays : (p : Place) (n : ℕ) (body : List ℕ) (u b : ℕ) → obeyed (completed p) ≡ true → leavesBody b ≡ false
     → stepOf (receiverAt p n body) u b ≡ quiet (stored b (receiverAt p n body))
 stays p n body u b i h =
-    let e = none-of (eqb b slash) (eqb b cr) (eqb b stx) h in
-    step-inside (receiverAt p n body) u b i (e .0) (e .2) (e .1)
+    let e = none-of (eqb b cr) (eqb b stx) (eqb b slash) h in
+    step-inside (receiverAt p n body) u b i (e .2) (e .1) (e .0)
 
 -- one that stays is stored where there is room
 pub stays-kept : (p : Place) (n : ℕ) (body : List ℕ) (u b : ℕ) → obeyed (completed p) ≡ true → leavesBody b ≡ false

@@ -35,9 +35,9 @@ isOutside (Place.OemSequence w s) = false
 isOutside (Place.OemBody w q s) = false
 isOutside (Place.OemSum w q s) = false
 
--- a byte that ends a plain body: a new frame, or the CR
+-- a byte that ends a plain body: the CR, or a new frame
 abbrev pub leavesBody : ℕ → Bool
-leavesBody b = eqb b slash || (eqb b cr || eqb b stx)
+leavesBody b = eqb b cr || (eqb b stx || eqb b slash)
 
 -- a byte in the body of a plain frame for w: a new frame, the CR, or one byte more
 abbrev pub inPlain : Frame → ℕ → Receiver → Stepped

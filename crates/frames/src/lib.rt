@@ -2,7 +2,7 @@
 ghost use mathlib.Core.Path.{_≡_};
 ghost use mathlib.Core.List.{List};
 ghost use Prim.Native.Nat.{ℕ, _<_};
-ghost use mathlib.Core.Bool.{true};
+ghost use mathlib.Core.Bool.{true, not};
 ghost use lib.ListN.{length};
 ghost use Rattle.frames.specs.Addresses.{calledOf};
 ghost use Rattle.frames.specs.Receive.{obeyed, receiverAt, receiverOf, heardWith, freshProgress, quiet, finished, begun, stored, closed};
@@ -255,24 +255,24 @@ fn opens(x: u8, p: Place, b: u8) -> bool
     ensures { λ r. ⌜ r ≡ begins x p b ⌝ }
 {
     if b == x {
-        return not_summing(p);
+        return !summing(p);
     }
     false
 }
 
-// Whether the receiver stands elsewhere than in the checksum place.
-fn not_summing(p: Place) -> bool
-    ensures { λ r. ⌜ r ≡ elsewhere p ⌝ }
+// Whether the receiver stands in the checksum place.
+fn summing(p: Place) -> bool
+    ensures { λ r. ⌜ r ≡ not (elsewhere p) ⌝ }
 {
     match p {
-        Place::Outside => true,
-        Place::Address => true,
-        Place::Alone => true,
-        Place::Group => true,
-        Place::OemAddress => true,
-        Place::OemSequence(_, _) => true,
-        Place::OemBody(_, _, _) => true,
-        Place::OemSum(_, _, _) => false,
+        Place::Outside => false,
+        Place::Address => false,
+        Place::Alone => false,
+        Place::Group => false,
+        Place::OemAddress => false,
+        Place::OemSequence(_, _) => false,
+        Place::OemBody(_, _, _) => false,
+        Place::OemSum(_, _, _) => true,
     }
 }
 
@@ -366,17 +366,17 @@ fn completes(p: Place) -> Frame
     }
 }
 
-// Whether a byte ends a plain body: a new frame, or the CR.
+// Whether a byte ends a plain body: the CR, or a new frame.
 fn leaves(b: u8) -> bool
     ensures { λ r. ⌜ r ≡ leavesBody b ⌝ }
 {
-    if b == SLASH {
-        return true;
-    }
     if b == CR {
         return true;
     }
-    b == STX
+    if b == STX {
+        return true;
+    }
+    b == SLASH
 }
 
 // What such a byte makes of the receiver in the body of a frame for w.
