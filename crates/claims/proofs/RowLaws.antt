@@ -27,8 +27,8 @@ use Rattle.turns.specs.Turns.{turnCore}
 use Rattle.frames.specs.Addresses.{isUnit}
 use Rattle.drive.specs.Names.{startName, feedName, turnName}
 use Rattle.drive.specs.Calls.{noUnit, freshUnit, Starting, starting, startOf, receivedBy, bodyBy, obeyedBy, packetAs, answerTo, feedRefused, feedTaken, feedOf, mostSample, turnRefused, turnTaken, turnOf}
+use Rattle.drive.proofs.AnswerLaws.{packet-fits}
 use Rattle.drive.proofs.FeedLaws.{put-nothing}
-use Rattle.stream.proofs.FitLaws.{packet-fits}
 use Rattle.claims.specs.Demand1.{StartRow, ImageRow, FrameRefused, frameCode, refusalPacket, FeedRow, TurnRow}
 use Rattle.claims.proofs.OrderLaws.{order-row}
 

@@ -14,7 +14,6 @@ use Rattle.parts.proofs.Laws.{cases, put-in-room, put-front}
 use Rattle.digits.specs.Operand.{widest}
 use Rattle.answers.specs.Packet.{statusOf, mostData, packetBytes}
 use Rattle.answers.specs.Reading.{allPrintable, goodData}
-use Rattle.answers.proofs.Writing.{length-packet, length-oem-packet}
 use Rattle.answers.proofs.ReadBack.{reads-back, number-good}
 use Rattle.answers.proofs.OemLaws.{reads-back-oem}
 use Rattle.frames.specs.declared.Framing.{Framing}
@@ -24,13 +23,14 @@ use Rattle.drive.specs.Unit.{Drive}
 use Rattle.obeying.specs.declared.Obeyed.{Obeyed}
 use Rattle.obeying.specs.declared.Tell.{Tell}
 use Rattle.obeying.specs.Obeying.{stepSize, dataOf, loadedAs, textWritten}
-use Rattle.drive.specs.Calls.{packetAs, answerTo, receivedBy, bodyBy, obeyedBy, textThen, feedOf}
+use Rattle.drive.specs.Calls.{answerTo, receivedBy, bodyBy, obeyedBy, textThen, feedOf}
 use Rattle.runs.specs.Packets.{Answers, answeredBy, toldBy, ReadIn, ReadBack}
 use Rattle.runs.proofs.SoundLaws.{Sound, SoundUnit}
 use Rattle.runs.proofs.CallLaws.{feed-done}
 use Rattle.runs.proofs.PrintLaws.{checked-printable}
 use Rattle.motor.specs.Deeds.{codeValues}
 use Rattle.obeying.specs.Deeds.{Tells, nothingTold, textTold, positionTold, speedTold, sampleTold, stepSizeTold, correctionTold, Obeys, refuses, tells, stores, clears, stops, resumes, again, loads}
+use Rattle.drive.proofs.AnswerLaws.{packet-fits}
 use Rattle.drive.proofs.FeedLaws.{frame-does}
 use Rattle.runs.proofs.FitLaws.{FitIn, FitUnit}
 
@@ -90,16 +90,12 @@ front-written buffer bytes h =
     rw (put-in-room buffer 0 bytes (omega arith), put-front buffer bytes) (take-append-seam bytes (drop (length bytes) buffer))
 
 -- no packet is longer than 262 bytes
-packet-most : (g : Framing) (status : ℕ) (d : List ℕ) → length d ≤ mostData → length (packetAs g status d) ≤ packetBytes
-packet-most Framing.Plain status d h = omega (arith, length-packet status d)
-packet-most (Framing.Oem q) status d h = omega (arith, length-oem-packet status d)
-
 answer-most : (g : Framing) (o : Obeyed) (text : List ℕ) → Tellable o text → length (answerTo g o text) ≤ packetBytes
 unfolding answerTo goodData
 answer-most g o text t =
     let d = dataOf (o .tell) (o .core .flow .length) text in
     let l = leb-true (length d) mostData (and-eq-true-iff (leb (length d) mostData) (allPrintable d) .0 (t .0) .0) in
-    packet-most g (statusOf (not (o .core .running)) (o .code)) d l
+    packet-fits g (statusOf (not (o .core .running)) (o .code)) d l .1
 
 -- and each is read back
 answer-reads : (g : Framing) (o : Obeyed) (text : List ℕ) → Tellable o text

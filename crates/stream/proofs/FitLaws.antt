@@ -12,7 +12,6 @@ use Rattle.parts.proofs.Laws.{cases, length-padded}
 use Rattle.digits.specs.Operand.{widest}
 use Rattle.digits.proofs.Writing.{length-most}
 use Rattle.answers.specs.Packet.{mostData, packetBytes}
-use Rattle.answers.proofs.Writing.{length-packet, length-oem-packet}
 use Rattle.image.specs.Image.{slotText}
 use Rattle.frames.specs.declared.Frame.{Frame}
 use Rattle.frames.specs.declared.Framing.{Framing}
@@ -28,10 +27,11 @@ use Rattle.obeying.specs.declared.Tell.{Tell}
 use Rattle.obeying.specs.declared.Obeyed.{Obeyed}
 use Rattle.obeying.specs.Obeying.{stepSize, dataOf, loadedAs, textWritten}
 use Rattle.drive.specs.Unit.{Drive}
+use Rattle.drive.proofs.AnswerLaws.{packet-fits}
 use Rattle.drive.proofs.FeedLaws.{frame-does}
 use Rattle.drive.specs.declared.StartAnswer.{StartAnswer}
 use Rattle.drive.proofs.StartLaws.{started-unit}
-use Rattle.drive.specs.Calls.{startOf, receivedBy, textThen, packetAs, answerTo, turnOf}
+use Rattle.drive.specs.Calls.{startOf, receivedBy, textThen, answerTo, turnOf}
 use Rattle.motor.specs.Deeds.{Goes-on, same, waits, less, places}
 use Rattle.keeping.specs.Deeds.{Sets, Does, goes, ends, Steps, keeps-text, enters-text}
 use Rattle.obeying.specs.Deeds.{Tells, nothingTold, textTold, positionTold, speedTold, sampleTold, stepSizeTold, correctionTold}
@@ -159,12 +159,6 @@ data-fits : (t : Tell) (n : ℕ) (text : List ℕ) → FitsTell t → length tex
 data-fits Tell.Nothing n text f h = omega arith
 data-fits (Tell.Number k) n text f h = omega (arith, length-most 10 k (omega arith) (omega arith))
 data-fits Tell.Text n text f h = simp length-take (omega arith)
-
--- a packet of either framing is some bytes, and no longer than the shortest buffer
-pub packet-fits : (g : Framing) (status : ℕ) (d : List ℕ) → length d ≤ mostData
-    → (1 ≤ length (packetAs g status d)) × (length (packetAs g status d) ≤ packetBytes)
-packet-fits Framing.Plain status d h = (omega (arith, length-packet status d), omega (arith, length-packet status d))
-packet-fits (Framing.Oem q) status d h = (omega (arith, length-oem-packet status d), omega (arith, length-oem-packet status d))
 
 answer-fits : (g : Framing) (o : Obeyed) (text : List ℕ) → length text ≤ mostData → FitsTell (o .tell)
     → (1 ≤ length (answerTo g o text)) × (length (answerTo g o text) ≤ packetBytes)
