@@ -46,25 +46,25 @@ three s k h =
     let more : suc (k + 2) ≡ k + 3 = omega arith in
     rw (drop-cons s k 0 (omega arith), one, drop-cons s (k + 1) 0 (omega arith), two, drop-cons s (k + 2) 0 (omega arith), more)
 
--- a list of six bytes and more is its first three, its data and its last three
-split : (s : List ℕ) → aroundData ≤ length s
-    → s ≡ getD s 0 0 ∷ getD s 1 0 ∷ getD s 2 0 ∷ (dataIn s ++ drop (length s - 3) s)
-unfolding dataIn part
-split s h =
-    let n : ℕ = length s - aroundData in
-    let end : dataAt + n ≡ length s - 3 = omega arith in
-    let rest : drop dataAt s ≡ take n (drop dataAt s) ++ drop (length s - 3) s =
+-- a list of three bytes and k more at its end is its first three, what lies between, and its last k
+pub split : (k : ℕ) (s : List ℕ) → 3 + k ≤ length s
+    → s ≡ getD s 0 0 ∷ getD s 1 0 ∷ getD s 2 0 ∷ (part s dataAt (length s - (3 + k)) ++ drop (length s - k) s)
+unfolding part
+split k s h =
+    let n : ℕ = length s - (3 + k) in
+    let end : dataAt + n ≡ length s - k = omega arith in
+    let rest : drop dataAt s ≡ take n (drop dataAt s) ++ drop (length s - k) s =
     sym (take-append-drop n (drop dataAt s)) ∙ ap (λ (l : List ℕ). take n (drop dataAt s) ++ l) (drop-drop n dataAt s ∙ ap (λ (m : ℕ). drop m s) end) in
     three s 0 (omega arith) ∙ ap (λ (l : List ℕ). getD s 0 0 ∷ getD s 1 0 ∷ getD s 2 0 ∷ l) rest
 
 -- the bytes of the frame, tested one by one
 pub is-framed : (s : List ℕ) → aroundData ≤ length s → getD s 0 0 ≡ slash → getD s 1 0 ≡ hostAddress → getD s (length s - 3) 0 ≡ endOfText
     → getD s (length s - 3 + 1) 0 ≡ carriageReturn → getD s (length s - 3 + 2) 0 ≡ lineFeed → framed s ≡ true
-unfolding framed packet
+unfolding framed packet dataIn
 is-framed s h a b x y z =
     let end : length s - 3 + 3 ≡ length s = omega arith in
     let last : drop (length s - 3) s ≡ tail = three s (length s - 3) (omega arith) ∙ rw (x, y, z, end, drop-length s) in
-    let whole : s ≡ packet (statusIn s) (dataIn s) = split s h ∙ rw (a, b, last) in
+    let whole : s ≡ packet (statusIn s) (dataIn s) = split 3 s h ∙ rw (a, b, last) in
     ap (λ (l : List ℕ). same s l) (sym whole) ∙ same-self s
 
 module _ (s : List ℕ) (f : framed s ≡ true) where

@@ -1,3 +1,4 @@
 pub mod Writing
 pub mod Framing
 pub mod ReadBack
+pub mod OemLaws

@@ -1,7 +1,7 @@
 -- Laws of a packet that is written: how long it is, that head, data and tail in turn make it, and the promise met each way. Assumes nothing.
 use Prim.Native.Nat.{ℕ, _+_, _≤_, _<_, zero-le}
 use mathlib.Core.Path.{_≡_, refl, sym, ap, _∙_}
-use mathlib.Core.List.{List, [], _∷_}
+use mathlib.Core.List.{List, [], _∷_, _++_}
 use mathlib.Core.Bool.{Bool, true, false}
 use native.Mathlib.Omega.{arith}
 use lib.ListN.{length, replicate, length-append}
@@ -14,57 +14,89 @@ use Rattle.digits.specs.Decimal.{decimal, WrittenIs}
 use Rattle.digits.specs.declared.Written.{Written}
 use Rattle.digits.specs.declared.Written.the-variants.{Past, NoRoom}
 use Rattle.digits.proofs.Writing.{length-most, is-written, is-refused}
-use Rattle.answers.specs.Packet.{slash, hostAddress, tail, packet, aroundData, mostData, mostDigits, numberData, PacketIs}
+use Rattle.answers.specs.Packet.{slash, hostAddress, endOfText, tail, packet, aroundData, mostData, mostDigits, numberData, PacketAs, PacketIs}
+use Rattle.answers.specs.Oem.{startOfText, oemSum, oemTail, oemPacket, aroundOem, OemPacketIs}
 use Rattle.answers.specs.declared.Data.{Data}
 
 pub length-packet : (status : ℕ) (bytes : List ℕ) → length (packet status bytes) ≡ aroundData + length bytes
 unfolding packet
 length-packet status bytes = simp length-append (omega arith)
 
+pub length-oem-packet : (status : ℕ) (bytes : List ℕ) → length (oemPacket status bytes) ≡ aroundOem + length bytes
+unfolding oemPacket oemTail
+length-oem-packet status bytes = simp length-append (omega arith)
+
 -- ---- the promise, met each way
 
 -- where the data is not too long, it is a writer's promise
-pub is-packet : {buffer : List ℕ} {status : ℕ} {bytes : List ℕ} {answer : Written} {after : List ℕ} → length bytes ≤ mostData
-    → WrittenIs buffer 0 (packet status bytes) answer after → PacketIs buffer status bytes answer after
+pub is-packet : {make : ℕ → List ℕ → List ℕ} {buffer : List ℕ} {status : ℕ} {bytes : List ℕ} {answer : Written} {after : List ℕ} → length bytes ≤ mostData
+    → WrittenIs buffer 0 (make status bytes) answer after → PacketAs make buffer status bytes answer after
 is-packet {bytes = bytes} h w =
     let e : leb (length bytes) mostData ≡ true = le-leb (length bytes) mostData h in
     record { answers = w .answers ∙ rw e; leaves = w .leaves ∙ rw e }
 
-pub too-long : (buffer : List ℕ) (status : ℕ) (bytes : List ℕ) → mostData < length bytes → PacketIs buffer status bytes NoRoom buffer
-too-long buffer status bytes h =
+pub too-long : (make : ℕ → List ℕ → List ℕ) (buffer : List ℕ) (status : ℕ) (bytes : List ℕ) → mostData < length bytes
+    → PacketAs make buffer status bytes NoRoom buffer
+too-long make buffer status bytes h =
     let e : leb (length bytes) mostData ≡ false = lt-leb (length bytes) mostData h in
     record { answers = rw e; leaves = rw e }
 
 pub no-room : (buffer : List ℕ) (status : ℕ) (bytes : List ℕ) → length bytes ≤ mostData → length buffer < aroundData + length bytes
     → PacketIs buffer status bytes NoRoom buffer
-no-room buffer status bytes h g = is-packet h (is-refused buffer 0 (packet status bytes) (omega (arith, length-packet status bytes)))
+no-room buffer status bytes h g =
+    is-packet {make = packet} h (is-refused buffer 0 (packet status bytes) (omega (arith, length-packet status bytes)))
 
--- head, data and tail, written in turn, are the packet
-put-packet : (xs : List ℕ) (status : ℕ) (bytes : List ℕ)
-    → put (put (put xs 0 (slash ∷ hostAddress ∷ status ∷ [])) 3 bytes) (3 + length bytes) tail ≡ put xs 0 (packet status bytes)
-unfolding packet
-put-packet xs status bytes =
-    ap (λ (l : List ℕ). put l (3 + length bytes) tail) (put-more xs 0 (slash ∷ hostAddress ∷ status ∷ []) zero-le 3 bytes refl)
-    ∙ put-more xs 0 (slash ∷ hostAddress ∷ status ∷ bytes) zero-le (3 + length bytes) tail (omega arith)
+pub no-oem-room : (buffer : List ℕ) (status : ℕ) (bytes : List ℕ) → length bytes ≤ mostData → length buffer < aroundOem + length bytes
+    → OemPacketIs buffer status bytes NoRoom buffer
+no-oem-room buffer status bytes h g =
+    is-packet {make = oemPacket} h (is-refused buffer 0 (oemPacket status bytes) (omega (arith, length-oem-packet status bytes)))
+
+-- head, data and tail, written in turn, are the whole
+put-whole : (xs : List ℕ) (start status : ℕ) (bytes back : List ℕ)
+    → put (put (put xs 0 (start ∷ hostAddress ∷ status ∷ [])) 3 bytes) (3 + length bytes) back
+    ≡ put xs 0 (start ∷ hostAddress ∷ status ∷ (bytes ++ back))
+put-whole xs start status bytes back =
+    ap (λ (l : List ℕ). put l (3 + length bytes) back) (put-more xs 0 (start ∷ hostAddress ∷ status ∷ []) zero-le 3 bytes refl)
+    ∙ put-more xs 0 (start ∷ hostAddress ∷ status ∷ bytes) zero-le (3 + length bytes) back (omega arith)
 
 -- the same, told by `put_at`
-pub written : {xs : List ℕ} {status : ℕ} {bytes x y z : List ℕ} {p q r : Bool} → length bytes ≤ mostData → aroundData + length bytes ≤ length xs
-    → PutIs xs 0 (slash ∷ hostAddress ∷ status ∷ []) p x → PutIs x 3 bytes q y → PutIs y (3 + length bytes) tail r z
-    → PacketIs xs status bytes (Past (aroundData + length bytes)) z
-written {xs} {status} {bytes} {x} {y} {z} h room a b c =
-    let head : List ℕ = slash ∷ hostAddress ∷ status ∷ [] in
+whole-put : {xs : List ℕ} {start status : ℕ} {bytes back x y z : List ℕ} {p q r : Bool} → 3 + length bytes + length back ≤ length xs
+    → PutIs xs 0 (start ∷ hostAddress ∷ status ∷ []) p x → PutIs x 3 bytes q y → PutIs y (3 + length bytes) back r z
+    → z ≡ put xs 0 (start ∷ hostAddress ∷ status ∷ (bytes ++ back))
+whole-put {xs} {start} {status} {bytes} {back} {x} {y} {z} room a b c =
+    let head : List ℕ = start ∷ hostAddress ∷ status ∷ [] in
     let x-long : length x ≡ length xs = ap length (a .leaves) ∙ length-put-in xs 0 head in
     let y-long : length y ≡ length xs = ap length (b .leaves) ∙ length-put-in x 3 bytes ∙ x-long in
     let x-is : x ≡ put xs 0 head = a .leaves ∙ put-in-room xs 0 head (omega arith) in
     let y-is : y ≡ put x 3 bytes = b .leaves ∙ put-in-room x 3 bytes (omega arith) in
-    let z-is : z ≡ put y (3 + length bytes) tail = c .leaves ∙ put-in-room y (3 + length bytes) tail (omega arith) in
-    let whole : z ≡ put xs 0 (packet status bytes) = z-is ∙ rw (y-is, x-is) (put-packet xs status bytes) in
+    let z-is : z ≡ put y (3 + length bytes) back = c .leaves ∙ put-in-room y (3 + length bytes) back (omega arith) in
+    z-is ∙ rw (y-is, x-is) (put-whole xs start status bytes back)
+
+pub written : {xs : List ℕ} {status : ℕ} {bytes x y z : List ℕ} {p q r : Bool} → length bytes ≤ mostData → aroundData + length bytes ≤ length xs
+    → PutIs xs 0 (slash ∷ hostAddress ∷ status ∷ []) p x → PutIs x 3 bytes q y → PutIs y (3 + length bytes) tail r z
+    → PacketIs xs status bytes (Past (aroundData + length bytes)) z
+unfolding packet
+written {xs} {status} {bytes} {z = z} h room a b c =
+    let whole : z ≡ put xs 0 (packet status bytes) = whole-put (omega arith) a b c in
     let long = length-packet status bytes in
-    is-packet h (is-written xs 0 (packet status bytes) (omega arith) (omega arith) whole)
+    is-packet {make = packet} h (is-written xs 0 (packet status bytes) (omega arith) (omega arith) whole)
+
+pub written-oem : {xs : List ℕ} {status : ℕ} {bytes x y z : List ℕ} {p q r : Bool} {sum : ℕ} → length bytes ≤ mostData
+    → aroundOem + length bytes ≤ length xs → sum ≡ oemSum status bytes
+    → PutIs xs 0 (startOfText ∷ hostAddress ∷ status ∷ []) p x → PutIs x 3 bytes q y
+    → PutIs y (3 + length bytes) (endOfText ∷ sum ∷ []) r z
+    → OemPacketIs xs status bytes (Past (aroundOem + length bytes)) z
+unfolding oemPacket oemTail
+written-oem {xs} {status} {bytes} {z = z} {sum = sum} h room e a b c =
+    let made : z ≡ put xs 0 (startOfText ∷ hostAddress ∷ status ∷ (bytes ++ (endOfText ∷ sum ∷ []))) = whole-put (omega arith) a b c in
+    let whole : z ≡ put xs 0 (oemPacket status bytes) =
+    made ∙ ap (λ (k : ℕ). put xs 0 (startOfText ∷ hostAddress ∷ status ∷ (bytes ++ (endOfText ∷ k ∷ [])))) e in
+    let long = length-oem-packet status bytes in
+    is-packet {make = oemPacket} h (is-written xs 0 (oemPacket status bytes) (omega arith) (omega arith) whole)
 
 -- no second answer meets the promise
-pub packet-once : {buffer : List ℕ} {status : ℕ} {bytes : List ℕ} {r s : Written} {x y : List ℕ}
-    → PacketIs buffer status bytes r x → PacketIs buffer status bytes s y → (r ≡ s) × (x ≡ y)
+pub packet-once : {make : ℕ → List ℕ → List ℕ} {buffer : List ℕ} {status : ℕ} {bytes : List ℕ} {r s : Written} {x y : List ℕ}
+    → PacketAs make buffer status bytes r x → PacketAs make buffer status bytes s y → (r ≡ s) × (x ≡ y)
 packet-once p q = (p .answers ∙ sym (q .answers), p .leaves ∙ sym (q .leaves))
 
 -- ---- a number as data

@@ -57,11 +57,14 @@ lowFour n = n % 2 ^ 4
 unfoldable pub statusOf : Bool → ℕ → ℕ
 statusOf idle code = 2 ^ 6 + cond idle (2 ^ 5) 0 + lowFour code
 
--- what is answered and what the buffer holds after a packet was to be written at its front: "answer bytes past the packet
--- are unchanged"; without room, and for more data than a packet has, all are
-pub record PacketIs (buffer : List ℕ) (status : ℕ) (bytes : List ℕ) (answer : Written) (after : List ℕ) : Type 0 where
-  pub answers : answer ≡ cond (leb (length bytes) mostData) (writtenAt buffer 0 (packet status bytes)) Written.NoRoom
-  pub leaves : after ≡ cond (leb (length bytes) mostData) (putIn buffer 0 (packet status bytes)) buffer
+-- what is answered and what the buffer holds after a packet, made of status and data, was to be written at its front: "answer
+-- bytes past the packet are unchanged"; without room, and for more data than a packet has, all are
+pub record PacketAs (make : ℕ → List ℕ → List ℕ) (buffer : List ℕ) (status : ℕ) (bytes : List ℕ) (answer : Written) (after : List ℕ) : Type 0 where
+  pub answers : answer ≡ cond (leb (length bytes) mostData) (writtenAt buffer 0 (make status bytes)) Written.NoRoom
+  pub leaves : after ≡ cond (leb (length bytes) mostData) (putIn buffer 0 (make status bytes)) buffer
+
+abbrev pub PacketIs : List ℕ → ℕ → List ℕ → Written → List ℕ → Type 0
+PacketIs buffer status bytes answer after = PacketAs packet buffer status bytes answer after
 
 -- 4294967295, the greatest number that is answered, has ten digits
 abbrev pub mostDigits : ℕ

@@ -1,7 +1,8 @@
-// Answers: the status, a packet written from a status and data, a packet read.
+// Answers: the status, a packet written from a status and data, a packet read, in both framings.
 ghost use mathlib.Core.Path.{_≡_};
 ghost use Rattle.answers.specs.Packet.{statusOf, numberData, PacketIs};
-ghost use Rattle.answers.specs.Reading.{framed, goodStatus, goodData, insideOf, readOf};
+ghost use Rattle.answers.specs.Reading.{framed, goodStatus, goodData, insideOf, toldOf, readOf};
+ghost use Rattle.answers.specs.Oem.{oemSum, OemPacketIs, oemFramed, oemInsideOf, readOemOf};
 ghost use Rattle.answers.specs.AnswerClaims.{AnswerClaims};
 use digits::Written;
 
@@ -46,6 +47,9 @@ const CARRIAGE_RETURN: u8 = 13;
 
 const LINE_FEED: u8 = 10;
 
+// An OEM packet: 02, `0`, status, data, 03, the checksum of all these.
+const START_OF_TEXT: u8 = 2;
+
 // Where status and data stand, and how many bytes stand behind the data, and around it.
 const STATUS_AT: usize = 2;
 
@@ -54,6 +58,10 @@ const DATA_AT: usize = 3;
 const TAIL_BYTES: usize = 3;
 
 const AROUND_DATA: usize = DATA_AT + TAIL_BYTES;
+
+const OEM_TAIL_BYTES: usize = 2;
+
+const AROUND_OEM: usize = DATA_AT + OEM_TAIL_BYTES;
 
 // "data 0 to 256 bytes"
 const MOST_DATA: usize = 256;
@@ -106,6 +114,33 @@ pub fn write_packet(buffer: &mut [u8], status: u8, data: &[u8]) -> Written
     Written::Past(AROUND_DATA + n)
 }
 
+// The same in the OEM framing.
+pub fn write_oem_packet(buffer: &mut [u8], status: u8, data: &[u8]) -> Written
+    ensures { λ r. ⌜ OemPacketIs (now (buffer .entry)) status (now («data» .entry)) r (now (buffer .exit)) ⌝ }
+{
+    let count = data.len();
+    if MOST_DATA < count {
+        return Written::NoRoom;
+    }
+    if buffer.len() < AROUND_OEM + count {
+        return Written::NoRoom;
+    }
+    let head = [START_OF_TEXT, HOST_ADDRESS, status];
+    let end = [END_OF_TEXT, oem_sum(status, data)];
+    parts::put_at(buffer, 0, &head);
+    parts::put_at(buffer, DATA_AT, data);
+    parts::put_at(buffer, DATA_AT + count, &end);
+    Written::Past(AROUND_OEM + count)
+}
+
+// The checksum of an OEM packet.
+fn oem_sum(status: u8, data: &[u8]) -> u8
+    ensures { λ r. ⌜ r ≡ oemSum status (now («data» .entry)) ⌝ }
+{
+    let head = checksum::with_byte(checksum::with_byte(START_OF_TEXT, HOST_ADDRESS), status);
+    checksum::with_byte(checksum::with_bytes(head, data), END_OF_TEXT)
+}
+
 // A number in decimal without leading zeros, as data.
 pub fn number_data(n: u32) -> Data
     ensures { λ r. ⌜ r ≡ numberData n ⌝ }
@@ -121,7 +156,21 @@ pub fn number_data(n: u32) -> Data
 pub fn read_packet(packet: &[u8]) -> Packet
     ensures { λ r. ⌜ r ≡ readOf (now (packet .entry)) ⌝ }
 {
-    let Inside::StatusData(status, length) = look_inside(packet) else {
+    tell(look_inside(packet))
+}
+
+// The same of a slice that is exactly one packet of the OEM framing.
+pub fn read_oem_packet(packet: &[u8]) -> Packet
+    ensures { λ r. ⌜ r ≡ readOemOf (now (packet .entry)) ⌝ }
+{
+    tell(look_inside_oem(packet))
+}
+
+// What the host is told of what stands within a packet.
+fn tell(inside: Inside) -> Packet
+    ensures { λ r. ⌜ r ≡ toldOf inside ⌝ }
+{
+    let Inside::StatusData(status, length) = inside else {
         return Packet {
             found: Found::NotOnePacket,
             status: 0,
@@ -178,6 +227,42 @@ fn framed(packet: &[u8]) -> bool
         return false;
     }
     packet[end + 2] == LINE_FEED
+}
+
+// The status and the number of data bytes of a slice that is exactly one OEM packet.
+fn look_inside_oem(packet: &[u8]) -> Inside
+    ensures { λ r. ⌜ r ≡ oemInsideOf (now (packet .entry)) ⌝ }
+{
+    if oem_framed(packet) {
+        let status = packet[STATUS_AT];
+        let n = packet.len() - AROUND_OEM;
+        if good_status(status) {
+            if good_data(&packet[DATA_AT..DATA_AT + n]) {
+                return Inside::StatusData(status, n);
+            }
+        }
+    }
+    Inside::Neither
+}
+
+// Whether a slice begins and ends as an OEM packet does, with the right checksum and room for the status between.
+fn oem_framed(packet: &[u8]) -> bool
+    ensures { λ r. ⌜ r ≡ oemFramed (now (packet .entry)) ⌝ }
+{
+    if packet.len() < AROUND_OEM {
+        return false;
+    }
+    if packet[0] != START_OF_TEXT {
+        return false;
+    }
+    if packet[1] != HOST_ADDRESS {
+        return false;
+    }
+    let end = packet.len() - OEM_TAIL_BYTES;
+    if packet[end] != END_OF_TEXT {
+        return false;
+    }
+    packet[end + 1] == checksum::sum(&packet[0..end + 1])
 }
 
 // Whether bit 6 of a status is set, and bits 7 and 4 are clear.

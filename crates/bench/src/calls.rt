@@ -5,6 +5,7 @@ use crate::operation::Judge;
 use crate::state;
 use crate::telling;
 use answers::Found;
+use answers::Packet;
 use forecast::Counted;
 use host::LineWritten;
 use lines::Slot;
@@ -43,7 +44,7 @@ fn tell_text(good: bool, out: &mut [u8]) -> usize {
 
 // Status and data of a packet.
 fn tell_packet(bytes: &[u8], out: &mut [u8]) -> usize {
-    let p = answers::read_packet(bytes);
+    let p = read_either(bytes);
     let found = p.found;
     let Found::OnePacket = found else {
         return telling::add(out, 0, b"refused packet");
@@ -61,6 +62,17 @@ fn tell_count(counted: Counted, out: &mut [u8]) -> usize {
         Counted::Letter => telling::add(out, 0, b"refused letter"),
         Counted::TooMany => telling::add(out, 0, b"refused count"),
     }
+}
+
+// A packet read, in the OEM framing where it begins with 02.
+pub(crate) fn read_either(bytes: &[u8]) -> Packet {
+    if bytes.len() == 0 {
+        return answers::read_packet(bytes);
+    }
+    if bytes[0] == 2 {
+        return answers::read_oem_packet(bytes);
+    }
+    answers::read_packet(bytes)
 }
 
 // `ramp V L N`, `ramp V L endless`

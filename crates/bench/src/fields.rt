@@ -39,6 +39,22 @@ pub(crate) fn pair_at(s: &[u8], at: usize) -> Number {
     ended(s, end, n)
 }
 
+// The byte of the field at a place, which has exactly two hex digits.
+pub(crate) fn hex_at(s: &[u8], at: usize) -> Number {
+    if s.len() < at {
+        return Number::Unreadable;
+    }
+    if s.len() - at < 2 {
+        return Number::Unreadable;
+    }
+    if !are_digits(&s[at..at + 2]) {
+        return Number::Unreadable;
+    }
+    let high = value(s[at]);
+    let low = value(s[at + 1]);
+    ended(s, at + 2, (high * 16 + low) as u32)
+}
+
 // 0 where the field at a place is this byte.
 pub(crate) fn byte_at(s: &[u8], at: usize, byte: u8) -> Number {
     if s.len() <= at {

@@ -8,9 +8,9 @@ use digits::Operand;
 const MOST_FIELDS: usize = 4;
 
 // The rows, and the bytes of the table.
-const ROWS: usize = 20;
+const ROWS: usize = 21;
 
-const TABLE_BYTES: usize = 802;
+const TABLE_BYTES: usize = 897;
 
 const TABLE: [u8; TABLE_BYTES] = *b"image HEX : lend these bytes as the image
 image empty : lend the image with all slots empty
@@ -28,7 +28,8 @@ text HEX : judge a text to be stored
 ramp V L N : tell the ramp of N microsteps
 ramp V L endless : tell the ramp of an endless move
 write SLOT RUN LIST : write a line from a list of commands
-read HEX : read an answer packet
+read HEX : read an answer packet, OEM where it begins with 02
+oem SEQ TEXT : feed an OEM frame for this unit, with its checksum
 count HEX : count the commands of a body's run
 /... : feed a line as it is typed, with a CR
 help : tell the operations";
@@ -205,6 +206,9 @@ fn fault_of_named(name: &[u8], field: &[u8]) -> Fault {
     if check::same(name, b"SLOT") {
         return fault_of_slot(field);
     }
+    if check::same(name, b"SEQ") {
+        return fault_of_sequence(field);
+    }
     fault_of_number(field)
 }
 
@@ -236,6 +240,14 @@ fn fault_of_slot(field: &[u8]) -> Fault {
         return Fault::Nothing;
     }
     fault_of_number(field)
+}
+
+// The same of a sequence byte.
+fn fault_of_sequence(field: &[u8]) -> Fault {
+    if field.len() == 2 {
+        return fault_of_hex(field);
+    }
+    Fault::NoHex
 }
 
 // The same of a number.

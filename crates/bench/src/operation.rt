@@ -46,6 +46,8 @@ pub(crate) enum OnUnit {
     Run { sample: u8, ms: u32, told: bool },
     // Bytes in hex, or the whole line as a person types it.
     Feed { typed: bool, at: usize },
+    // An OEM frame with a sequence byte and the text as a person types it.
+    Oem { sequence: u8, at: usize },
     Tell,
 }
 
@@ -98,6 +100,7 @@ fn with_fields(word: Word, line: &[u8], at: usize) -> Operation {
         Word::Timeline => read_run(line, at, true),
         Word::Ramp => read_ramp(line, at),
         Word::Write => read_write(line, at),
+        Word::Oem => read_oem(line, at),
         _ => with_bytes(word, line, at),
     }
 }
@@ -115,6 +118,20 @@ fn with_bytes(word: Word, line: &[u8], at: usize) -> Operation {
         Word::Count => Operation::Judge(Judge::Count, at),
         _ => Operation::Unreadable,
     }
+}
+
+// `oem SEQ TEXT`
+fn read_oem(line: &[u8], at: usize) -> Operation {
+    let Number::More(sequence, text_at) = fields::hex_at(line, at) else {
+        return Operation::Unreadable;
+    };
+    if BYTE_MOST < sequence {
+        return Operation::Unreadable;
+    }
+    Operation::OnUnit(OnUnit::Oem {
+        sequence: sequence as u8,
+        at: text_at,
+    })
 }
 
 // `image HEX`, `image empty`

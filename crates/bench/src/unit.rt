@@ -1,4 +1,5 @@
 // The operations on the unit, and what they answer.
+use crate::calls;
 use crate::course;
 use crate::fields;
 use crate::operation::OnUnit;
@@ -10,6 +11,7 @@ use crate::telling;
 use answers::Found;
 use drive::Fed;
 use drive::FeedAnswer;
+use drive::Last;
 use drive::StartAnswer;
 use drive::TurnAnswer;
 use motor::Wait;
@@ -82,6 +84,7 @@ pub(crate) fn on_unit(
         OnUnit::Turn { sample, ms, steps } => turn(b, sample, ms, steps, image, out),
         OnUnit::Run { sample, ms, told } => course::run(b, sample, ms, told, image, out),
         OnUnit::Feed { typed, at } => feed_line(b, typed, line, at, image, buffer, out),
+        OnUnit::Oem { sequence, at } => feed_oem(b, sequence, line, at, image, buffer, out),
         OnUnit::Tell => Said {
             bench: b,
             length: tell(b, out),
@@ -112,6 +115,36 @@ fn bytes_of(typed: bool, line: &[u8], at: usize, bytes: &mut [u8]) -> usize {
         return telling::add(bytes, n, b"\r");
     }
     fields::read_bytes(line, at, bytes)
+}
+
+// `oem SEQ TEXT`
+fn feed_oem(
+    b: Bench,
+    sequence: u8,
+    line: &[u8],
+    at: usize,
+    image: &mut [u8],
+    buffer: &mut [u8],
+    out: &mut [u8],
+) -> Said {
+    let w = b.whole;
+    let u = w.unit;
+    let mut bytes = [0u8; state::LINE_BYTES];
+    let end = frame_oem(u.number, sequence, fields::rest(line, at), &mut bytes);
+    let n = fields::up_to(end, &bytes);
+    feed(b, &bytes[0..n], true, image, buffer, out)
+}
+
+// 02, the address of a unit, which is 1 to 16, the sequence byte, a text, 03 and the checksum: how many bytes.
+fn frame_oem(number: u8, sequence: u8, text: &[u8], bytes: &mut [u8]) -> usize {
+    let head = [2, b'0' + number % 32, sequence];
+    let mut n = telling::add(bytes, 0, &head);
+    n = telling::add(bytes, n, text);
+    let etx = [3u8];
+    n = telling::add(bytes, n, &etx);
+    let end = fields::up_to(n, bytes);
+    let sum = [checksum::sum(&bytes[0..end])];
+    telling::add(bytes, n, &sum)
 }
 
 // Bytes fed in one call.
@@ -166,7 +199,7 @@ fn tell_fed(consumed: usize, typed: bool, packet: &[u8], out: &mut [u8]) -> usiz
 
 // An answer as text; `-` where none came.
 fn tell_packet(packet: &[u8], out: &mut [u8]) -> usize {
-    let p = answers::read_packet(packet);
+    let p = calls::read_either(packet);
     let found = p.found;
     let Found::OnePacket = found else {
         return telling::add(out, 0, b"-");
@@ -373,7 +406,17 @@ fn tell(b: Bench, out: &mut [u8]) -> usize {
     let text = w.text;
     let at = tell_state(c.running, out);
     let next = tell_numbers(numbers_of(c), at, out);
-    tell_text(text, f.length, next, out)
+    let last = u.last;
+    let end = tell_last(last, next, out);
+    tell_text(text, f.length, end, out)
+}
+
+// The number of the last OEM frame that was not refused; `-` for none.
+fn tell_last(last: Last, at: usize, out: &mut [u8]) -> usize {
+    match last {
+        Last::Never => telling::add(out, at, b" last=-"),
+        Last::Number(n) => telling::add_number(out, at, b" last=", n as u64),
+    }
 }
 
 // Whether the unit runs.

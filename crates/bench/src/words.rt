@@ -17,6 +17,7 @@ pub(crate) enum Word {
     Ramp,
     Write,
     Read,
+    Oem,
     Count,
     Help,
     Unknown,
@@ -42,8 +43,9 @@ pub(crate) fn word_of(w: &[u8]) -> Word {
         13 => Word::Ramp,
         15 => Word::Write,
         16 => Word::Read,
-        17 => Word::Count,
-        19 => Word::Help,
+        17 => Word::Oem,
+        18 => Word::Count,
+        20 => Word::Help,
         _ => Word::Unknown,
     }
 }

@@ -2,28 +2,32 @@
 -- Assumes nothing.
 use Prim.Native.Nat.{ℕ, _≤_, _<_}
 use mathlib.Core.Path.{_≡_, refl, _∙_}
-use mathlib.Core.List.{List, [], _++_}
-use mathlib.Core.Bool.{Bool, true, false, cond}
+use mathlib.Core.List.{List, [], _∷_, _++_}
+use mathlib.Core.Bool.{Bool, true, false, cond, _||_}
 use native.Mathlib.Omega.{arith}
 use lib.ListN.{length, drop}
-use lib.Dec.{ltb}
-use borrow.Author.Tests.{lt-ltb, le-ltb}
+use lib.Dec.{ltb, eqb}
+use borrow.Author.Tests.{lt-ltb, le-ltb, ne-eqb}
 use Rattle.parts.specs.Parts.{putIn}
 use Rattle.parts.proofs.Laws.{cases, put-front, put-in-room}
+use Rattle.commands.specs.Table as table
+use Rattle.commands.proofs.TableLaws.{each, each-one}
 use Rattle.image.specs.Calls.{checkedOf}
 use Rattle.image.specs.Image.{rightLength, slots, slotsGood}
 use Rattle.frames.specs.declared.Frame.{Frame}
-use Rattle.answers.specs.Packet.{packet, packetBytes}
-use Rattle.answers.proofs.Writing.{length-packet}
+use Rattle.frames.specs.declared.Framing.{Framing}
+use Rattle.answers.specs.Packet.{packetBytes}
 use Rattle.drive.specs.Unit.{Drive}
+use Rattle.drive.specs.declared.Last.{Last}
+use Rattle.drive.specs.Repeats.{isRefusal, numberedBy}
 use Rattle.drive.specs.declared.StartAnswer.{StartAnswer}
 use Rattle.drive.specs.declared.FeedAnswer.{FeedAnswer}
 use Rattle.drive.specs.declared.TurnAnswer.{TurnAnswer}
 use Rattle.turns.specs.Turns.{turnCore}
 use Rattle.frames.specs.Addresses.{isUnit}
 use Rattle.drive.specs.Names.{startName, feedName, turnName}
-use Rattle.frames.specs.Receive.{bodyIn}
-use Rattle.drive.specs.Calls.{noUnit, freshUnit, Starting, starting, startOf, receivedBy, obeyedBy, answerTo, feedRefused, feedTaken, feedOf, mostSample, turnRefused, turnTaken, turnOf}
+use Rattle.drive.specs.Calls.{noUnit, freshUnit, Starting, starting, startOf, receivedBy, bodyBy, obeyedBy, packetAs, answerTo, feedRefused, feedTaken, feedOf, mostSample, turnRefused, turnTaken, turnOf}
+use Rattle.drive.proofs.AnswerLaws.{packet-fits}
 use Rattle.drive.proofs.FeedLaws.{put-nothing}
 use Rattle.claims.specs.Demand1.{StartRow, ImageRow, FrameRefused, frameCode, refusalPacket, FeedRow, TurnRow}
 use Rattle.claims.proofs.OrderLaws.{order-row}
@@ -76,10 +80,21 @@ turn-row u sample ms steps image = record {
     go false b d = refl
 
 -- a packet without data at the front of a buffer of 262 bytes
-front : (status : ℕ) (buffer : List ℕ) → packetBytes ≤ length buffer
-    → putIn buffer 0 (packet status []) ≡ packet status [] ++ drop (length (packet status [])) buffer
-front status buffer l =
-    put-in-room buffer 0 (packet status []) (omega (arith, length-packet status [])) ∙ put-front buffer (packet status [])
+front : (g : Framing) (status : ℕ) (buffer : List ℕ) → packetBytes ≤ length buffer
+    → putIn buffer 0 (packetAs g status []) ≡ packetAs g status [] ++ drop (length (packetAs g status [])) buffer
+front g status buffer l =
+    put-in-room buffer 0 (packetAs g status []) (omega (arith, packet-fits g status [] (omega arith) .1)) ∙ put-front buffer (packetAs g status [])
+
+-- a refused frame leaves the number
+refusal : (k : ℕ) → table.oneOf (0 ∷ 2 ∷ 3 ∷ 15 ∷ []) k ≡ true → (k ≡ 0 → ⊥) → isRefusal k ≡ true
+unfolding table.oneOf each
+refusal k e n =
+    let h : eqb k 0 || isRefusal k ≡ true = each-one (λ m. eqb m 0 || isRefusal m) (0 ∷ 2 ∷ 3 ∷ 15 ∷ []) k refl e in
+    rw (ne-eqb k 0 n) at h
+
+refused-last : (g : Framing) (k : ℕ) (last : Last) → isRefusal k ≡ true → numberedBy g k last ≡ last
+refused-last Framing.Plain k last e = refl
+refused-last (Framing.Oem q) k last e = rw e
 
 module _ (u : Drive) (bytes image buffer : List ℕ) where
   buffer-short : length buffer < packetBytes → feedOf u bytes image buffer ≡ feedRefused FeedAnswer.BufferShort u image buffer
@@ -92,21 +107,25 @@ module _ (u : Drive) (bytes image buffer : List ℕ) where
 
   module _ (l : packetBytes ≤ length buffer) (w : rightLength image ≡ true) where
     frame-refused : receivedBy u bytes .frame ≡ Frame.Alone → (frameCode u bytes ≡ 0 → ⊥)
-        → FrameRefused u bytes image buffer (refusalPacket u (frameCode u bytes))
+        → FrameRefused u bytes image buffer (refusalPacket u (receivedBy u bytes .framing) (frameCode u bytes))
     unfolding feedOf answerTo
     frame-refused f n =
-        let h = order-row (bodyIn (receivedBy u bytes .receiver)) (u .core) in
-        rw (le-ltb (length buffer) packetBytes l, w, f, h .refused n, front _ buffer l)
+        let h = order-row (bodyBy u bytes) (u .core) in
+        let g = receivedBy u bytes .framing in
+        let same = refused-last g (frameCode u bytes) (u .last) (refusal (frameCode u bytes) (h .codes) n) in
+        rw (le-ltb (length buffer) packetBytes l, w, f, h .refused n, front g _ buffer l, same)
 
     group-refused : receivedBy u bytes .frame ≡ Frame.Group → (frameCode u bytes ≡ 0 → ⊥) → FrameRefused u bytes image buffer []
     unfolding feedOf
     group-refused f n =
-        let h = order-row (bodyIn (receivedBy u bytes .receiver)) (u .core) in
-        rw (le-ltb (length buffer) packetBytes l, w, f, h .refused n, put-nothing buffer)
+        let h = order-row (bodyBy u bytes) (u .core) in
+        let g = receivedBy u bytes .framing in
+        let same = refused-last g (frameCode u bytes) (u .last) (refusal (frameCode u bytes) (h .codes) n) in
+        rw (le-ltb (length buffer) packetBytes l, w, f, h .refused n, put-nothing buffer, same)
 
   feed-named : (a b : Bool)
       → feedName (cond a (feedRefused FeedAnswer.BufferShort u image buffer)
-      (cond b (feedTaken (receivedBy u bytes) (obeyedBy u bytes) u image buffer) (feedRefused FeedAnswer.ImageLength u image buffer)) .answer)
+      (cond b (feedTaken (receivedBy u bytes) (bodyBy u bytes) (obeyedBy u bytes) u image buffer) (feedRefused FeedAnswer.ImageLength u image buffer)) .answer)
       ≡ cond a "answer buffer under 262 bytes" (cond b "taken" "image not 4,160 bytes")
   feed-named true b = refl
   feed-named false true = refl

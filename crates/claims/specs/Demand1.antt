@@ -13,10 +13,11 @@ use Rattle.image.specs.declared.Checked.{Checked}
 use Rattle.image.specs.Calls.{checkedOf}
 use Rattle.image.specs.Image.{rightLength, slots, slotsGood}
 use Rattle.frames.specs.declared.Frame.{Frame}
-use Rattle.frames.specs.Receive.{bodyIn}
+use Rattle.frames.specs.declared.Framing.{Framing}
 use Rattle.frames.specs.Addresses.{isUnit}
-use Rattle.answers.specs.Packet.{packet, packetBytes, statusOf}
+use Rattle.answers.specs.Packet.{packetBytes, statusOf}
 use Rattle.answers.specs.Reading.{isPacket, foundOf, refused, readOf}
+use Rattle.answers.specs.Oem.{isOemPacket, readOemOf}
 use Rattle.answers.specs.declared.Found.the-variants.{NotOnePacket}
 use Rattle.ramp.specs.Ramp.{figuresOf}
 use Rattle.ramp.specs.Claims as ramps
@@ -33,7 +34,7 @@ use Rattle.drive.specs.declared.StartAnswer.{StartAnswer}
 use Rattle.drive.specs.declared.FeedAnswer.{FeedAnswer}
 use Rattle.drive.specs.declared.TurnAnswer.{TurnAnswer}
 use Rattle.drive.specs.Names.{startName, feedName, turnName}
-use Rattle.drive.specs.Calls.{noUnit, freshUnit, starting, startOf, receivedBy, feedRefused, feedOf, mostSample, turnRefused, turnOf}
+use Rattle.drive.specs.Calls.{noUnit, freshUnit, starting, startOf, receivedBy, bodyBy, packetAs, feedRefused, feedOf, mostSample, turnRefused, turnOf}
 use Rattle.claims.specs.Order.{codeInOrder}
 
 -- "at start: unit number not 1 to 16, then image not 4,160 bytes, then bad image | named refusal, no unit"
@@ -58,20 +59,20 @@ FrameRefused u bytes image buffer answer =
     feedOf u bytes image buffer
     ≡ record {
       answer = FeedAnswer.Taken;
-      unit = drive (u .number) (receivedBy u bytes .receiver) (u .text) (u .core);
+      unit = drive (u .number) (receivedBy u bytes .receiver) (u .text) (u .core) (u .last);
       consumed = receivedBy u bytes .consumed;
       answered = length answer;
       image = image;
       buffer = answer ++ drop (length answer) buffer;
     }
 
--- the code of the frame that these bytes complete
+-- the code of the frame that these bytes complete: of a repeat, of the body that it chooses
 abbrev pub frameCode : Drive → List ℕ → ℕ
-frameCode u bytes = codeInOrder (bodyIn (receivedBy u bytes .receiver)) (u .core)
+frameCode u bytes = codeInOrder (bodyBy u bytes) (u .core)
 
--- a refusal's packet: its code, no data, idle or running as before
-abbrev pub refusalPacket : Drive → ℕ → List ℕ
-refusalPacket u code = packet (statusOf (not (u .core .running)) code) []
+-- a refusal's packet: its code, no data, idle or running as before, in the frame's framing
+abbrev pub refusalPacket : Drive → Framing → ℕ → List ℕ
+refusalPacket u g code = packetAs g (statusOf (not (u .core .running)) code) []
 
 pub record FeedRow (u : Drive) (bytes image buffer : List ℕ) : Type 0 where
   -- the names, in their order
@@ -84,7 +85,7 @@ pub record FeedRow (u : Drive) (bytes image buffer : List ℕ) : Type 0 where
       → feedOf u bytes image buffer ≡ feedRefused FeedAnswer.ImageLength u image buffer
   -- "code 2, 3 or 15", to this unit alone and to a group
   pub frame-refused : packetBytes ≤ length buffer → rightLength image ≡ true → receivedBy u bytes .frame ≡ Frame.Alone
-      → (frameCode u bytes ≡ 0 → ⊥) → FrameRefused u bytes image buffer (refusalPacket u (frameCode u bytes))
+      → (frameCode u bytes ≡ 0 → ⊥) → FrameRefused u bytes image buffer (refusalPacket u (receivedBy u bytes .framing) (frameCode u bytes))
   pub group-refused : packetBytes ≤ length buffer → rightLength image ≡ true → receivedBy u bytes .frame ≡ Frame.Group
       → (frameCode u bytes ≡ 0 → ⊥) → FrameRefused u bytes image buffer []
 
@@ -127,6 +128,9 @@ pub record HostRow : Type 0 where
 pub record PacketRow (s : List ℕ) : Type 0 where
   pub which : readOf s .found ≡ foundOf (isPacket s)
   pub zeros : readOf s .found ≡ NotOnePacket → readOf s ≡ refused
+  -- the same of the OEM framing
+  pub which-oem : readOemOf s .found ≡ foundOf (isOemPacket s)
+  pub zeros-oem : readOemOf s .found ≡ NotOnePacket → readOemOf s ≡ refused
 
 -- "The image is good when every ..": good, wrong length or bad, and each only then
 pub record ImageRow (image : List ℕ) : Type 0 where

@@ -26,6 +26,7 @@ use Rattle.obeying.specs.declared.Obeyed.{Obeyed}
 use Rattle.obeying.specs.Obeying.{bodyObeyed, textWritten, imageWritten}
 use Rattle.drive.specs.Unit.{Drive}
 use Rattle.stream.specs.Claims.{StreamClaims}
+use Rattle.stream.specs.Oem.{OemClaims}
 use Rattle.runs.specs.Reach.{Reached}
 use Rattle.runs.specs.Packets.{PacketClaims}
 use Rattle.effects.specs.Claims.{EffectClaims}
@@ -83,3 +84,5 @@ pub record Demand2 : Type 0 where
   -- "Cutting the serial stream differently", "a whole frame for another unit"
   pub frames : FrameClaims
   pub stream : StreamClaims
+  -- 02, E1: skipped frames, repeats, the number
+  pub oem : OemClaims

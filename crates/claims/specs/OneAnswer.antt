@@ -10,6 +10,7 @@ use Rattle.digits.specs.Decimal.{WrittenIs}
 use Rattle.image.specs.declared.Stored.{Stored}
 use Rattle.image.specs.Calls.{StoredIs, ClearedIs}
 use Rattle.answers.specs.Packet.{PacketIs}
+use Rattle.answers.specs.Oem.{OemPacketIs}
 use Rattle.lines.specs.Lists.{HostList}
 use Rattle.host.specs.declared.LineWritten.{LineWritten}
 use Rattle.host.specs.Host.{LineIs}
@@ -38,6 +39,8 @@ pub record OneAnswer : Type 0 where
   pub cleared : (image : List ℕ) → Once {A = Bool} (ClearedIs image)
   -- `answers::write_packet`
   pub packet : (buffer : List ℕ) (status : ℕ) (bytes : List ℕ) → Once {A = Written} (PacketIs buffer status bytes)
+  -- `answers::write_oem_packet`
+  pub oem-packet : (buffer : List ℕ) (status : ℕ) (bytes : List ℕ) → Once {A = Written} (OemPacketIs buffer status bytes)
   -- `host::write_line`
   pub line : (l : HostList) (count : ℕ) (buffer : List ℕ) → Once {A = LineWritten} (LineIs l count buffer)
   -- `frames::receive`: the body

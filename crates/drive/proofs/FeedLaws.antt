@@ -16,8 +16,9 @@ use Rattle.commands.proofs.ReadingLaws.{not-tag}
 use Rattle.image.specs.Image.{rightLength}
 use Rattle.answers.specs.Packet.{packetBytes, statusOf}
 use Rattle.frames.specs.declared.Frame.{Frame}
+use Rattle.frames.specs.declared.Framing.{Framing}
 use Rattle.frames.specs.declared.Heard.{Heard}
-use Rattle.frames.specs.Receive.{Received, receiverOf, heardWith, bodyIn, receiveOf}
+use Rattle.frames.specs.Receive.{Received, receiverOf, heardWith, receiveOf}
 use Rattle.frames.proofs.Frame as frame
 use Rattle.turns.specs.declared.Core.{Core}
 use Rattle.obeying.specs.declared.Obeyed.{Obeyed}
@@ -25,14 +26,16 @@ use Rattle.obeying.specs.declared.Write.{Write}
 use Rattle.obeying.specs.Obeying.{dataOf, bodyObeyed}
 use Rattle.obeying.specs.Deeds.{Obeys, tells, nothingTold}
 use Rattle.obeying.proofs.DeedLaws.{body-does}
+use Rattle.drive.specs.declared.Last.{Last}
 use Rattle.drive.specs.declared.Record.{Record}
 use Rattle.drive.specs.declared.Fed.{Fed}
 use Rattle.drive.specs.declared.FeedAnswer.{FeedAnswer}
 use Rattle.drive.proofs.FeedAnswer as answer
 use Rattle.drive.specs.Unit.{Drive, unitOf}
-use Rattle.drive.specs.Calls.{Feeding, feedRefused, receivedBy, frameObeyed, receivedObeyed, answerTo, answerFor, feedTaken, feedOf}
+use Rattle.drive.specs.Calls.{Feeding, feedRefused, receivedBy, frameObeyed, bodyFor, bodyBy, receivedObeyed, obeyedBy, packetAs, answerTo, answerFor, feedTaken, feedOf}
+use Rattle.drive.specs.Repeats.{lastAfter}
 use Rattle.drive.specs.Promises.{fedWith}
-use Rattle.drive.specs.Steps.{feedAnswer, WrittenIs, PacketOf, AnsweredIs}
+use Rattle.drive.specs.Steps.{feedAnswer, WrittenIs, PacketOf, sentTo, AnsweredIs}
 
 -- ---- a frame obeyed
 
@@ -53,20 +56,32 @@ completed Frame.Group body c k = refl
 pub put-nothing : (xs : List ℕ) → putIn xs 0 [] ≡ xs
 put-nothing xs = put-in-room xs 0 [] (omega arith) ∙ put-front xs []
 
-pub answers-none : {f : Frame} {o : Obeyed} {text buffer : List ℕ} → answerFor f o text ≡ [] → AnsweredIs f o text buffer 0 buffer
+pub answers-none : {f : Frame} {p buffer : List ℕ} → sentTo f p ≡ [] → AnsweredIs f p buffer 0 buffer
 answers-none {buffer = buffer} e = record { answers = rw e; leaves = rw (e, put-nothing buffer) }
 
-pub answers-alone : {f : Frame} {o : Obeyed} {text buffer after : List ℕ} {n : ℕ} → f ≡ Frame.Alone
-    → PacketOf (statusOf (not (o .core .running)) (o .code)) (dataOf (o .tell) (o .core .flow .length) text) buffer n after
-    → AnsweredIs f o text buffer n after
-unfolding answerTo
+pub answers-alone : {f : Frame} {g : Framing} {status : ℕ} {bytes buffer after : List ℕ} {n : ℕ} → f ≡ Frame.Alone
+    → PacketOf g status bytes buffer n after
+    → AnsweredIs f (packetAs g status bytes) buffer n after
 answers-alone e p = record { answers = rw e (p .answers); leaves = rw e (p .leaves) }
+
+sent-answer : (f : Frame) (g : Framing) (o : Obeyed) (text : List ℕ) → sentTo f (answerTo g o text) ≡ answerFor f g o text
+sent-answer Frame.Nothing g o text = refl
+sent-answer Frame.Alone g o text = refl
+sent-answer Frame.Group g o text = refl
+
+-- the packet of what was obeyed, from its parts
+pub answer-parts : {f : Frame} (g : Framing) (o : Obeyed) (text : List ℕ) {status : ℕ} {buffer after : List ℕ} {n : ℕ}
+    → status ≡ statusOf (not (o .core .running)) (o .code)
+    → AnsweredIs f (packetAs g status (dataOf (o .tell) (o .core .flow .length) text)) buffer n after
+    → AnsweredIs f (answerTo g o text) buffer n after
+unfolding answerTo
+answer-parts g o text e a = rw (← e) a
 
 -- ---- the call
 
 module _ (u : Drive) (bytes image buffer : List ℕ) where
   abbrev taken : Feeding
-  taken = feedTaken (receivedBy u bytes) (receivedObeyed (receivedBy u bytes) (u .core)) u image buffer
+  taken = feedTaken (receivedBy u bytes) (bodyBy u bytes) (obeyedBy u bytes) u image buffer
 
   abbrev by-answer : FeedAnswer → Feeding
   by-answer FeedAnswer.Taken = taken
@@ -107,42 +122,49 @@ room-there image buffer e = go (ltb (length buffer) packetBytes) refl
 
 module _ (u : Record) (h : Heard) (body text image buffer : List ℕ) where
   -- a completed frame from its steps
-  pub frame-fed : {kept text′ image′ buffer′ : List ℕ} {o : Obeyed} {n : ℕ} → kept ≡ bodyIn (receiverOf (h .progress) body) → o ≡ bodyObeyed kept (u .core)
-      → WrittenIs (o .write) kept text image text′ image′ → AnsweredIs (h .frame) o text′ buffer n buffer′
+  pub frame-fed : {kept text′ image′ buffer′ : List ℕ} {o : Obeyed} {n : ℕ} {last : Last} → kept ≡ bodyFor (u .last) (heardWith h body)
+      → o ≡ bodyObeyed kept (u .core)
+      → WrittenIs (o .write) kept text image text′ image′ → AnsweredIs (h .frame) (answerTo (h .framing) o text′) buffer n buffer′
+      → last ≡ lastAfter (h .frame) (h .framing) (o .code) (u .last)
       → fedWith
       (record {
-        unit = record { core = o .core; progress = h .progress; number = u .number };
+        unit = record { core = o .core; progress = h .progress; number = u .number; last = last };
         consumed = h .consumed;
         answered = n;
         answer = FeedAnswer.Taken;
       })
       body text′ image′ buffer′
-      ≡ feedTaken (heardWith h body) (bodyObeyed (bodyIn (receiverOf (h .progress) body)) (u .core)) (unitOf u body text) image buffer
-  frame-fed k e w a = rw (a .answers, a .leaves, w .to-text, w .to-image, e, k)
+      ≡ feedTaken (heardWith h body) (bodyFor (u .last) (heardWith h body)) (bodyObeyed (bodyFor (u .last) (heardWith h body)) (u .core)) (unitOf u body text)
+      image buffer
+  frame-fed {text′ = text′} {o = o} k e w a l = rw (l, a .answers, a .leaves, sent-answer (h .frame) (h .framing) o text′, w .to-text, w .to-image, e, k)
 
   -- none completed: nothing but the receiver changes
   pub nothing-fed : h .frame ≡ Frame.Nothing
       → fedWith
       (record {
-        unit = record { core = u .core; progress = h .progress; number = u .number };
+        unit = record { core = u .core; progress = h .progress; number = u .number; last = u .last };
         consumed = h .consumed;
         answered = 0;
         answer = FeedAnswer.Taken;
       })
       body text image buffer
-      ≡ feedTaken (heardWith h body) (receivedObeyed (heardWith h body) (u .core)) (unitOf u body text) image buffer
+      ≡ feedTaken (heardWith h body) (bodyFor (u .last) (heardWith h body)) (receivedObeyed (u .last) (heardWith h body) (u .core)) (unitOf u body text) image
+      buffer
   nothing-fed f = rw (f, put-nothing buffer)
 
 module _ (u : Record) (body text bytes image buffer : List ℕ) {after : List ℕ} {h : Heard} where
   -- what was heard is what the definition receives
   pub fed-heard : FeedAnswer.Taken ≡ feedAnswer image buffer → heardWith h after ≡ receiveOf (receiverOf (u .progress) body) (u .number) bytes
-      → feedTaken (heardWith h after) (receivedObeyed (heardWith h after) (u .core)) (unitOf u after text) image buffer
+      → feedTaken (heardWith h after) (bodyFor (u .last) (heardWith h after)) (receivedObeyed (u .last) (heardWith h after) (u .core)) (unitOf u after text)
+      image buffer
       ≡ feedOf (unitOf u body text) bytes image buffer
   fed-heard a w =
-      ap (λ (r : Received). feedTaken r (receivedObeyed r (u .core)) (unitOf u body text) image buffer) w ∙ fed-taken (unitOf u body text) bytes image buffer a
+      ap (λ (r : Received). feedTaken r (bodyFor (u .last) r) (receivedObeyed (u .last) r (u .core)) (unitOf u body text) image buffer) w
+      ∙ fed-taken (unitOf u body text) bytes image buffer a
 
   pub fed-frame : FeedAnswer.Taken ≡ feedAnswer image buffer → heardWith h after ≡ receiveOf (receiverOf (u .progress) body) (u .number) bytes
       → OneOf (1 ∷ 2 ∷ []) (tagOf frame.the-type (h .frame))
-      → feedTaken (heardWith h after) (bodyObeyed (bodyIn (receiverOf (h .progress) after)) (u .core)) (unitOf u after text) image buffer
+      → feedTaken (heardWith h after) (bodyFor (u .last) (heardWith h after)) (bodyObeyed (bodyFor (u .last) (heardWith h after)) (u .core))
+      (unitOf u after text) image buffer
       ≡ feedOf (unitOf u body text) bytes image buffer
-  fed-frame a w k = rw (completed (h .frame) (bodyIn (receiverOf (h .progress) after)) (u .core) k) (fed-heard a w)
+  fed-frame a w k = rw (completed (h .frame) (bodyFor (u .last) (heardWith h after)) (u .core) k) (fed-heard a w)

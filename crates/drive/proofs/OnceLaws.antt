@@ -12,7 +12,7 @@ use Rattle.drive.specs.Calls.{Starting, Feeding, Turning, turnOf}
 use Rattle.drive.specs.Promises.{startedWith, fedWith, turnedWith, TurnedIs}
 
 recordIn : Drive → Record
-recordIn u = record { core = u .core; progress = record { place = u .receiver .place; length = u .receiver .length }; number = u .number }
+recordIn u = record { core = u .core; progress = record { place = u .receiver .place; length = u .receiver .length }; number = u .number; last = u .last }
 
 startedIn : Starting → Started
 startedIn s = record { unit = recordIn (s .unit); answer = s .answer }

@@ -1,4 +1,4 @@
--- The calls that firmware makes: start, feed, turn. 01, "Frames", "What comes back", "Image of the programs", "A turn".
+-- The calls that firmware makes: start, feed, turn. 01, "Frames", "What comes back", "Image of the programs", "A turn"; 02, E1.
 -- Assumes nothing.
 use Prim.Native.Nat.{ℕ}
 use mathlib.Core.List.{List, []}
@@ -8,6 +8,7 @@ use lib.Dec.{ltb}
 use Rattle.parts.specs.Parts.{putIn, paddedText}
 use Rattle.image.specs.Image.{rightLength, slots, slotsGood, slotText}
 use Rattle.frames.specs.declared.Frame.{Frame}
+use Rattle.frames.specs.declared.Framing.{Framing}
 use Rattle.frames.specs.Addresses.{isUnit}
 use Rattle.frames.specs.Receive.{Receiver, Received, receiverOf, freshProgress, bodyIn, receiveOf}
 use Rattle.turns.specs.declared.Core.{Core}
@@ -16,12 +17,15 @@ use Rattle.turns.specs.declared.Direction.{Direction}
 use Rattle.turns.specs.declared.Stepped.{Stepped}
 use Rattle.turns.specs.Turns.{freshCore, started, turnCore, textAfter, actionAnswered}
 use Rattle.answers.specs.Packet.{packet, packetBytes, statusOf}
+use Rattle.answers.specs.Oem.{oemPacket}
 use Rattle.obeying.specs.declared.Obeyed.{Obeyed}
 use Rattle.obeying.specs.Obeying.{dataOf, unheard, bodyObeyed, textWritten, imageWritten}
+use Rattle.drive.specs.declared.Last.{Last}
 use Rattle.drive.specs.declared.StartAnswer.{StartAnswer}
 use Rattle.drive.specs.declared.FeedAnswer.{FeedAnswer}
 use Rattle.drive.specs.declared.TurnAnswer.{TurnAnswer}
 use Rattle.drive.specs.Unit.{Drive, drive}
+use Rattle.drive.specs.Repeats.{chosen, lastAfter}
 
 -- ---- start
 
@@ -42,11 +46,11 @@ begunWith n = cond (ltb 0 n) (started n freshCore) freshCore
 
 unfoldable pub freshUnit : ℕ → List ℕ → List ℕ → Drive
 freshUnit number image body =
-    drive number (freshReceiver body) (paddedText (slotText image 0)) (begunWith (length (slotText image 0)))
+    drive number (freshReceiver body) (paddedText (slotText image 0)) (begunWith (length (slotText image 0))) Last.Never
 
 -- "no unit": the record of number 0, which no address calls, idle; the texts are as they were lent
 unfoldable pub noUnit : List ℕ → List ℕ → Drive
-noUnit body text = drive 0 (freshReceiver body) text freshCore
+noUnit body text = drive 0 (freshReceiver body) text freshCore Last.Never
 
 -- "at start: unit number not 1 to 16, then image not 4,160 bytes, then bad image"
 unfoldable pub startOf : ℕ → List ℕ → List ℕ → List ℕ → Starting
@@ -82,43 +86,55 @@ frameObeyed Frame.Nothing body c = unheard c
 frameObeyed Frame.Alone body c = bodyObeyed body c
 frameObeyed Frame.Group body c = bodyObeyed body c
 
-abbrev pub receivedObeyed : Received → Core → Obeyed
-receivedObeyed r c = frameObeyed (r .frame) (bodyIn (r .receiver)) c
+-- the body that is obeyed: a repeat chooses it
+abbrev pub bodyFor : Last → Received → List ℕ
+bodyFor last r = chosen last (r .framing) (bodyIn (r .receiver))
+
+abbrev pub receivedObeyed : Last → Received → Core → Obeyed
+receivedObeyed last r c = frameObeyed (r .frame) (bodyFor last r) c
+
+abbrev pub bodyBy : Drive → List ℕ → List ℕ
+bodyBy u bytes = bodyFor (u .last) (receivedBy u bytes)
 
 abbrev pub obeyedBy : Drive → List ℕ → Obeyed
-obeyedBy u bytes = receivedObeyed (receivedBy u bytes) (u .core)
+obeyedBy u bytes = receivedObeyed (u .last) (receivedBy u bytes) (u .core)
 
 -- the text that it leaves
-abbrev pub textThen : Received → Obeyed → List ℕ → List ℕ
-textThen r o text = textWritten (o .write) (bodyIn (r .receiver)) text
+abbrev pub textThen : List ℕ → Obeyed → List ℕ → List ℕ
+textThen body o text = textWritten (o .write) body text
 
--- the packet that answers a frame, obeyed with that text left
-unfoldable pub answerTo : Obeyed → List ℕ → List ℕ
-answerTo o text = packet (statusOf (not (o .core .running)) (o .code)) (dataOf (o .tell) (o .core .flow .length) text)
+-- the packet of each framing
+abbrev pub packetAs : Framing → ℕ → List ℕ → List ℕ
+packetAs Framing.Plain status bytes = packet status bytes
+packetAs (Framing.Oem q) status bytes = oemPacket status bytes
+
+-- the packet that answers a frame, in its framing, obeyed with that text left
+unfoldable pub answerTo : Framing → Obeyed → List ℕ → List ℕ
+answerTo g o text = packetAs g (statusOf (not (o .core .running)) (o .code)) (dataOf (o .tell) (o .core .flow .length) text)
 
 -- "A group frame is obeyed and never answered"
-abbrev pub answerFor : Frame → Obeyed → List ℕ → List ℕ
-answerFor Frame.Nothing o text = []
-answerFor Frame.Alone o text = answerTo o text
-answerFor Frame.Group o text = []
+abbrev pub answerFor : Frame → Framing → Obeyed → List ℕ → List ℕ
+answerFor Frame.Nothing g o text = []
+answerFor Frame.Alone g o text = answerTo g o text
+answerFor Frame.Group g o text = []
 
--- what was received, obeyed and answered; "Answer bytes past the packet are unchanged; without an answer all are."
-abbrev pub feedTaken : Received → Obeyed → Drive → List ℕ → List ℕ → Feeding
-feedTaken r o u image buffer =
+-- what was received, the body of it that was obeyed, and the answer; "Answer bytes past the packet are unchanged; without an answer all are."
+abbrev pub feedTaken : Received → List ℕ → Obeyed → Drive → List ℕ → List ℕ → Feeding
+feedTaken r body o u image buffer =
     record {
       answer = FeedAnswer.Taken;
-      unit = drive (u .number) (r .receiver) (textThen r o (u .text)) (o .core);
+      unit = drive (u .number) (r .receiver) (textThen body o (u .text)) (o .core) (lastAfter (r .frame) (r .framing) (o .code) (u .last));
       consumed = r .consumed;
-      answered = length (answerFor (r .frame) o (textThen r o (u .text)));
-      image = imageWritten (o .write) (bodyIn (r .receiver)) image;
-      buffer = putIn buffer 0 (answerFor (r .frame) o (textThen r o (u .text)));
+      answered = length (answerFor (r .frame) (r .framing) o (textThen body o (u .text)));
+      image = imageWritten (o .write) body image;
+      buffer = putIn buffer 0 (answerFor (r .frame) (r .framing) o (textThen body o (u .text)));
     }
 
 -- "answer buffer under 262 bytes | named refusal, 0 consumed, nothing changed"; "image not 4,160 bytes | the same; tested after the buffer"
 unfoldable pub feedOf : Drive → List ℕ → List ℕ → List ℕ → Feeding
 feedOf u bytes image buffer =
     cond (ltb (length buffer) packetBytes) (feedRefused FeedAnswer.BufferShort u image buffer)
-    (cond (rightLength image) (feedTaken (receivedBy u bytes) (obeyedBy u bytes) u image buffer)
+    (cond (rightLength image) (feedTaken (receivedBy u bytes) (bodyBy u bytes) (obeyedBy u bytes) u image buffer)
     (feedRefused FeedAnswer.ImageLength u image buffer))
 
 -- ---- turn
@@ -144,7 +160,7 @@ abbrev pub turnTaken : Stepped → List ℕ → Drive → Turning
 turnTaken s image u =
     record {
       answer = TurnAnswer.Taken;
-      unit = drive (u .number) (u .receiver) (textAfter (s .enter) (u .text) image) (s .core);
+      unit = drive (u .number) (u .receiver) (textAfter (s .enter) (u .text) image) (s .core) (u .last);
       action = actionAnswered (s .core .settings .turned) (s .core .motor .last);
     }
 

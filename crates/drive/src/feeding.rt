@@ -4,11 +4,11 @@ ghost use mathlib.Core.List.{List};
 ghost use Prim.Native.Nat.{ℕ, _≤_};
 ghost use lib.ListN.{length};
 ghost use Rattle.answers.specs.Packet.{packetBytes};
-ghost use Rattle.frames.specs.Receive.{receiverOf, heardWith, bodyIn};
+ghost use Rattle.frames.specs.Receive.{heardWith};
 ghost use Rattle.obeying.specs.Obeying.{bodyObeyed};
 ghost use Rattle.drive.specs.Unit.{unitOf};
 ghost use Rattle.drive.specs.declared.FeedAnswer.{FeedAnswer};
-ghost use Rattle.drive.specs.Calls.{feedRefused, feedTaken};
+ghost use Rattle.drive.specs.Calls.{feedRefused, bodyFor, feedTaken};
 ghost use Rattle.drive.specs.Promises.{fedWith};
 ghost use Rattle.drive.specs.Steps.{feedAnswer, WrittenIs};
 use crate::Fed;
@@ -49,7 +49,7 @@ pub(crate) fn refuse_feed(u: Record, answer: FeedAnswer) -> Fed
 // A call that completes no frame.
 pub(crate) fn feed_nothing(u: Record, h: Heard) -> Fed
     ensures { λ r. ⌜ r ≡ record {
-      unit = record { core = u .core; progress = h .progress; number = u .number };
+      unit = record { core = u .core; progress = h .progress; number = u .number; last = u .last };
       consumed = h .consumed;
       answered = 0;
       answer = FeedAnswer.Taken;
@@ -57,11 +57,13 @@ pub(crate) fn feed_nothing(u: Record, h: Heard) -> Fed
 {
     let core = u.core;
     let progress = h.progress;
+    let last = u.last;
     Fed {
         unit: Record {
             core: core,
             progress: progress,
             number: u.number,
+            last: last,
         },
         consumed: h.consumed,
         answered: 0,
@@ -69,7 +71,7 @@ pub(crate) fn feed_nothing(u: Record, h: Heard) -> Fed
     }
 }
 
-// A call that completes a frame: its body is obeyed, what it has to write is written, and the answer.
+// A call that completes a frame: its body, or what a repeat chooses of it, is obeyed, what it has to write is written, and the answer.
 pub(crate) fn feed_frame(
     u: Record,
     h: Heard,
@@ -81,24 +83,41 @@ pub(crate) fn feed_frame(
     requires { ⌜ packetBytes ≤ length (now buffer) ⌝ }
     ensures { λ r. ⌜
         fedWith r (now (body .entry)) (now (text .exit)) (now (image .exit)) (now (buffer .exit))
-        ≡ feedTaken (heardWith h (now (body .entry))) (bodyObeyed (bodyIn (receiverOf (h .progress) (now (body .entry)))) (u .core))
+        ≡ feedTaken (heardWith h (now (body .entry))) (bodyFor (u .last) (heardWith h (now (body .entry))))
+        (bodyObeyed (bodyFor (u .last) (heardWith h (now (body .entry)))) (u .core))
         (unitOf u (now (body .entry)) (now (text .entry))) (now (image .entry)) (now (buffer .entry))
         ⌝ }
 {
     let progress = h.progress;
     let c = u.core;
+    let framing = h.framing;
+    let last = u.last;
     let kept = parts::first(body, progress.length);
-    let o = obeying::obey(c, kept);
+    let chosen = crate::repeats::choose(last, framing, kept);
+    let o = obeying::obey(c, chosen);
     let write = o.write;
-    apply(write, kept, text, image);
+    apply(write, chosen, text, image);
     let frame = h.frame;
-    let answered = crate::answering::answer_completed(frame, o, text, buffer);
     let core = o.core;
+    let flow = core.flow;
+    let tell = o.tell;
+    let status = answers::status(!core.running, o.code);
+    let answered = crate::answering::answer_completed(
+        frame,
+        framing,
+        status,
+        tell,
+        flow.length,
+        text,
+        buffer,
+    );
+    let number = crate::repeats::last_after(frame, framing, o.code, last);
     Fed {
         unit: Record {
             core: core,
             progress: progress,
             number: u.number,
+            last: number,
         },
         consumed: h.consumed,
         answered: answered,

@@ -2,6 +2,7 @@
 // that the caller lends: the body being received, and the current text.
 mod answering;
 mod feeding;
+mod repeats;
 mod starting;
 mod turning;
 
@@ -16,11 +17,18 @@ use turns::Action;
 use turns::Core;
 use turns::Enter;
 
+// The number of the last OEM frame that was not refused; at start there is none.
+pub enum Last {
+    Never,
+    Number(u8),
+}
+
 // A unit without its texts.
 pub struct Record {
     pub core: Core,
     pub progress: Progress,
     pub number: u8,
+    pub last: Last,
 }
 
 // How a start is answered.
@@ -149,11 +157,13 @@ pub fn turn(
     let action = t.action;
     let answer = t.answer;
     let progress = u.progress;
+    let last = u.last;
     Turned {
         unit: Record {
             core: core,
             progress: progress,
             number: u.number,
+            last: last,
         },
         action: action,
         answer: answer,

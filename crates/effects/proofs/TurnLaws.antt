@@ -14,7 +14,6 @@ use Rattle.commands.specs.declared.Read.the-variants.{At, Bad, End}
 use Rattle.commands.specs.Table.{top, table, find, commandOf}
 use Rattle.commands.specs.Reading.{readAt}
 use Rattle.commands.proofs.TableLaws.{exponent-complete}
-use Rattle.frames.specs.Receive.{Receiver, bodyIn}
 use Rattle.image.specs.Image.{slotGood, slotText}
 use Rattle.flow.specs.declared.Flow.{Flow}
 use Rattle.flow.specs.declared.Flowed.{Flowed}
@@ -42,7 +41,7 @@ use Rattle.obeying.specs.Obeying.{textWritten}
 use Rattle.obeying.specs.Deeds.{Obeys, refuses, tells, stores, clears, stops, resumes, again, loads}
 use Rattle.drive.specs.declared.StartAnswer.{StartAnswer}
 use Rattle.drive.specs.Unit.{Drive, drive}
-use Rattle.drive.specs.Calls.{freshUnit, startOf, mostSample, receivedBy, Turning, turnTaken, turnOf}
+use Rattle.drive.specs.Calls.{freshUnit, startOf, mostSample, receivedBy, bodyBy, Turning, turnTaken, turnOf}
 use Rattle.drive.proofs.StartLaws.{started-unit}
 use Rattle.drive.proofs.FeedLaws.{frame-does}
 use Rattle.keeping.proofs.TurnLaws.{free}
@@ -56,13 +55,13 @@ use Rattle.effects.specs.Turns.{Defaults, SameRun, Letter, Keeps, Idles,
 
 -- ---- a fresh start
 
--- the same of a core
+-- the same of a core, in any unit
 abbrev Fresh : Core → Type 0
-Fresh c = (number : ℕ) (r : Receiver) (text : List ℕ) → Defaults (drive number r text c)
+Fresh c = (u : Drive) → Defaults (drive (u .number) (u .receiver) (u .text) c (u .last))
 
 fresh-core : Fresh freshCore
 unfolding freshCore begun fresh defaults
-fresh-core number r text = record {
+fresh-core u = record {
   settings = refl;
   sample = refl;
   position = refl;
@@ -77,7 +76,7 @@ fresh-core number r text = record {
 
 started-core : (n : ℕ) → Fresh (started n freshCore)
 unfolding started freshCore begun fresh defaults
-started-core n number r text = record {
+started-core n u = record {
   settings = refl;
   sample = refl;
   position = refl;
@@ -94,7 +93,7 @@ pub start-defaults : (number : ℕ) (image body text : List ℕ) → startOf num
 unfolding freshUnit
 start-defaults number image body text e =
     let n : ℕ = length (slotText image 0) in
-    subst Defaults (sym (started-unit number image body text e)) (cases Fresh (ltb 0 n) (λ q. started-core n) (λ q. fresh-core) number _ _)
+    subst Defaults (sym (started-unit number image body text e)) (cases Fresh (ltb 0 n) (λ q. started-core n) (λ q. fresh-core) (freshUnit number image body))
 
 -- ---- calls that leave the run where it is
 
@@ -119,7 +118,7 @@ obeys-same text h (loads run n r l) = clash h r
 pub feeds : (u : Drive) (bytes image buffer : List ℕ) → u .core .running ≡ true → SameRun u (after (Feed bytes image buffer) u)
 feeds u bytes image buffer h =
     same-run (feed-cases u bytes image buffer (Same (u .text) (u .core)) (refl, refl, refl, refl)
-    (λ d. obeys-same (u .text) h (frame-does (receivedBy u bytes .frame) (bodyIn (receivedBy u bytes .receiver)) (u .core))))
+    (λ d. obeys-same (u .text) h (frame-does (receivedBy u bytes .frame) (bodyBy u bytes) (u .core))))
 
 -- a step that stays in its text
 abbrev SameStep : Core → Stepped → Type 0

@@ -1,6 +1,10 @@
+pub mod Bools
 pub mod Steps
+pub mod Runs
 pub mod Addresses
 pub mod Stream
+pub mod Oem
 pub mod Foreign
 pub mod Bodies
+pub mod Alike
 pub mod Once

@@ -7,7 +7,7 @@ use Rattle.frames.specs.declared.Heard.{Heard}
 use Rattle.frames.specs.Receive.{Received, heardWith}
 
 heardIn : Received → Heard
-heardIn f = record { progress = record { place = f .receiver .place; length = f .receiver .length }; consumed = f .consumed; frame = f .frame }
+heardIn f = record { progress = record { place = f .receiver .place; length = f .receiver .length }; consumed = f .consumed; frame = f .frame; framing = f .framing }
 
 pub heard-once : {f : Received} {h g : Heard} {x y : List ℕ} → heardWith h x ≡ f → heardWith g y ≡ f → (h ≡ g) × (x ≡ y)
 unfolding heardIn

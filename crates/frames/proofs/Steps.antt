@@ -1,70 +1,175 @@
--- One byte, by where it comes: `/` anywhere, the address place, a body, outside a frame.
+-- One byte, by where it comes: a byte that begins a frame, then place by place.
 -- Assumes nothing.
 use Prim.Native.Nat.{ℕ, _<_}
 use native.Mathlib.Omega.{arith}
 use mathlib.Core.Path.{_≡_, refl, ap, sym, _∙_}
-use mathlib.Core.Bool.{Bool, true, false, cond, not, _&&_, true≢false}
-use mathlib.Core.Logic.{_⊎_, inl, inr}
+use mathlib.Core.Bool.{true, false, cond, true≢false}
+use mathlib.Core.Logic.{inl, inr}
 use mathlib.Core.List.{List, _∷_}
 use lib.ListN.{length-set}
 use lib.Dec.{eqb, ltb}
-use borrow.Author.Tests.{ne-eqb, ltb-true}
+use borrow.Author.Tests.{ne-eqb, ltb-true, eqb-true}
+use Rattle.checksum.specs.Checksum.{xor}
 use Rattle.frames.specs.declared.Place.{Place}
 use Rattle.frames.specs.declared.Frame.{Frame}
+use Rattle.frames.specs.declared.Framing.{Framing}
 use Rattle.frames.specs.Addresses.{calledOf}
-use Rattle.frames.specs.Receive.{Receiver, slash, cr, mostKept, obeyed, completed, placed, quiet, begun, stored, taken, stepOf}
-use Rattle.frames.specs.Pieces.{outsideOf}
-use Rattle.frames.specs.Claims.{plain, Sound}
+use Rattle.frames.specs.Receive.{Receiver, slash, cr, stx, etx, mostKept, obeyed, placed, Stepped, quiet, finished, begun, stored}
+use Rattle.frames.specs.Receive.{closed, heard, begunOem, storedFor, taken, elsewhere, begins, stepOf}
+use Rattle.frames.specs.Pieces.{completed, inPlain}
+use Rattle.frames.specs.Claims.{free, Sound, Ends}
+use Rattle.frames.proofs.Bools.{bool, cases, and-no, and-yes, none-of}
 
-pub bool : (t : Bool) → (t ≡ true) ⊎ (t ≡ false)
-bool true = inl refl
-bool false = inr refl
+-- in a plain body
+pub taken-inside : (p : Place) (u b : ℕ) (r : Receiver) → obeyed (completed p) ≡ true
+    → taken p u b r ≡ closed (completed p) b r (quiet (stored b r))
+taken-inside Place.Outside u b r i = absurd (true≢false (sym i))
+taken-inside Place.Address u b r i = absurd (true≢false (sym i))
+taken-inside Place.Alone u b r i = refl
+taken-inside Place.Group u b r i = refl
+taken-inside Place.OemAddress u b r i = absurd (true≢false (sym i))
+taken-inside (Place.OemSequence w s) u b r i = absurd (true≢false (sym i))
+taken-inside (Place.OemBody w q s) u b r i = absurd (true≢false (sym i))
+taken-inside (Place.OemSum w q s) u b r i = absurd (true≢false (sym i))
 
--- the two tests that the code makes of the place tell the four places apart
-pub taken-is : (p : Place) (u b : ℕ) (r : Receiver)
-    → taken p u b r ≡ cond (obeyed (completed p)) (stored b r) (cond (outsideOf p) r (begun (calledOf u b) r))
-taken-is Place.Outside u b r = refl
-taken-is Place.Address u b r = refl
-taken-is Place.Alone u b r = refl
-taken-is Place.Group u b r = refl
+pub free-cons : (end b : ℕ) (bs : List ℕ) → free end (b ∷ bs) ≡ true
+    → (eqb b slash ≡ false) × (eqb b stx ≡ false) × (eqb b end ≡ false) × (free end bs ≡ true)
+free-cons end b bs h = none-of (eqb b slash) (eqb b stx) (eqb b end) (free end bs) h
 
--- the first byte of a body is neither `/` nor CR, nor are the others
-plain-parts : (s c t : Bool) → not s && not c && t ≡ true → (s ≡ false) × (c ≡ false) × (t ≡ true)
-plain-parts true c t e = absurd (true≢false (sym e))
-plain-parts false true t e = absurd (true≢false (sym e))
-plain-parts false false t e = (refl, refl, e)
-
-pub plain-cons : (b : ℕ) (bs : List ℕ) → plain (b ∷ bs) ≡ true
-    → (eqb b slash ≡ false) × (eqb b cr ≡ false) × (plain bs ≡ true)
-plain-cons b bs e = plain-parts (eqb b slash) (eqb b cr) (plain bs) e
-
-pub step-slash : (r : Receiver) (u : ℕ) → stepOf r u slash ≡ quiet (placed Place.Address r)
+-- A BYTE THAT BEGINS A FRAME, AND ONE THAT DOES NOT
+pub begins-plain : (r : Receiver) (u : ℕ) → elsewhere (r .place) ≡ true → stepOf r u slash ≡ quiet (placed Place.Address r)
 unfolding stepOf
-step-slash r u = refl
+begins-plain r u e = simp e
 
-pub step-address : (r : Receiver) (u a : ℕ) → eqb a slash ≡ false → eqb a cr ≡ false
+pub begins-oem : (r : Receiver) (u : ℕ) → elsewhere (r .place) ≡ true → stepOf r u stx ≡ quiet (placed Place.OemAddress r)
+unfolding stepOf
+begins-oem r u e = simp e
+
+pub step-other : (r : Receiver) (u b : ℕ) → eqb b slash ≡ false → eqb b stx ≡ false → stepOf r u b ≡ taken (r .place) u b r
+unfolding stepOf
+step-other r u b s t = simp (s, t)
+
+-- what holds of each way holds of the step
+pub step-cases : (P : Stepped → Type 0) (r : Receiver) (u b : ℕ) → P (quiet (placed Place.Address r))
+    → P (quiet (placed Place.OemAddress r)) → P (taken (r .place) u b r)
+    → P (stepOf r u b)
+unfolding stepOf
+step-cases P r u b plain oem other =
+    cases P (begins slash (r .place) b) (λ e. plain) (λ e. cases P (begins stx (r .place) b) (λ f. oem) (λ f. other))
+
+-- PLACE BY PLACE
+-- a plain body is no checksum place
+inside-elsewhere : (p : Place) → obeyed (completed p) ≡ true → elsewhere p ≡ true
+inside-elsewhere Place.Outside i = refl
+inside-elsewhere Place.Address i = refl
+inside-elsewhere Place.Alone i = refl
+inside-elsewhere Place.Group i = refl
+inside-elsewhere Place.OemAddress i = refl
+inside-elsewhere (Place.OemSequence w s) i = refl
+inside-elsewhere (Place.OemBody w q s) i = refl
+inside-elsewhere (Place.OemSum w q s) i = absurd (true≢false (sym i))
+
+pub step-plain : (r : Receiver) (u b : ℕ) → obeyed (completed (r .place)) ≡ true
+    → stepOf r u b ≡ inPlain (completed (r .place)) b r
+unfolding stepOf
+step-plain r u b i = rw (inside-elsewhere (r .place) i, and-yes (eqb b slash), and-yes (eqb b stx), taken-inside (r .place) u b r i)
+
+pub step-outside : (r : Receiver) (u b : ℕ) → r .place ≡ Place.Outside → eqb b slash ≡ false → eqb b stx ≡ false
+    → stepOf r u b ≡ quiet r
+step-outside r u b o s t = step-other r u b s t ∙ rw o
+
+pub skipped : (r : Receiver) (u b : ℕ) → r .place ≡ Place.Outside → (b ≡ slash → ⊥) → (b ≡ stx → ⊥) → stepOf r u b ≡ quiet r
+skipped r u b o n m = step-outside r u b o (ne-eqb b slash n) (ne-eqb b stx m)
+
+pub step-address : (r : Receiver) (u a : ℕ) → eqb a slash ≡ false → eqb a stx ≡ false → eqb a cr ≡ false
     → stepOf (placed Place.Address r) u a ≡ quiet (begun (calledOf u a) (placed Place.Address r))
-unfolding stepOf
-step-address r u a s c = simp (s, c)
+step-address r u a s t c = step-other (placed Place.Address r) u a s t ∙ rw c
 
 pub step-inside : (r : Receiver) (u b : ℕ) → obeyed (completed (r .place)) ≡ true → eqb b slash ≡ false
-    → eqb b cr ≡ false
+    → eqb b stx ≡ false → eqb b cr ≡ false
     → stepOf r u b ≡ quiet (stored b r)
-unfolding stepOf
-step-inside r u b i s c = simp (s, c, taken-is, i)
+step-inside r u b i s t c = step-other r u b s t ∙ taken-inside (r .place) u b r i ∙ rw c
 
-pub step-outside : (r : Receiver) (u b : ℕ) → r .place ≡ Place.Outside → eqb b slash ≡ false → stepOf r u b ≡ quiet r
-unfolding stepOf
-step-outside r u b o s =
-    elim (bool (eqb b cr)) [
-      | inl c ↦ simp (s, c, o) (ap (λ (p : Place). quiet (placed p r)) (sym o))
-      | inr c ↦ simp (s, c, o)
-    ]
+pub step-oem-address : (r : Receiver) (u a : ℕ) → eqb a slash ≡ false → eqb a stx ≡ false → eqb a etx ≡ false
+    → stepOf (placed Place.OemAddress r) u a ≡ quiet (placed (Place.OemSequence (calledOf u a) (xor stx a)) r)
+step-oem-address r u a s t e = step-other (placed Place.OemAddress r) u a s t ∙ rw e
 
-pub skipped : (r : Receiver) (u b : ℕ) → r .place ≡ Place.Outside → (b ≡ slash → ⊥) → stepOf r u b ≡ quiet r
-skipped r u b o n = step-outside r u b o (ne-eqb b slash n)
+pub step-oem-sequence : (r : Receiver) (u : ℕ) (w : Frame) (s q : ℕ) → eqb q slash ≡ false → eqb q stx ≡ false
+    → eqb q etx ≡ false
+    → stepOf (placed (Place.OemSequence w s) r) u q ≡ quiet (begunOem (heard w q) q (xor s q) r)
+step-oem-sequence r u w s q a t e = step-other (placed (Place.OemSequence w s) r) u q a t ∙ rw e
+
+-- the place does not matter to what is stored
+pub stored-placed : (p : Place) (b : ℕ) (r : Receiver) → stored b (placed p r) ≡ placed p (stored b r)
+unfolding stored
+stored-placed p b r = elim (bool (ltb (r .length) mostKept)) [ inl e ↦ simp e | inr e ↦ simp e ]
+
+storedFor-placed : (w : Frame) (p : Place) (b : ℕ) (r : Receiver) → storedFor w b (placed p r) ≡ placed p (storedFor w b r)
+storedFor-placed Frame.Nothing p b r = refl
+storedFor-placed Frame.Alone p b r = stored-placed p b r
+storedFor-placed Frame.Group p b r = stored-placed p b r
+
+pub step-oem-body : (r : Receiver) (u : ℕ) (w : Frame) (q s b : ℕ) → eqb b slash ≡ false → eqb b stx ≡ false
+    → eqb b etx ≡ false
+    → stepOf (placed (Place.OemBody w q s) r) u b ≡ quiet (placed (Place.OemBody w q (xor s b)) (storedFor w b r))
+step-oem-body r u w q s b a t e =
+    step-other (placed (Place.OemBody w q s) r) u b a t ∙ rw e (ap quiet (storedFor-placed w (Place.OemBody w q (xor s b)) b r))
+
+pub step-oem-end : (r : Receiver) (u : ℕ) (w : Frame) (q s : ℕ)
+    → stepOf (placed (Place.OemBody w q s) r) u etx ≡ quiet (placed (Place.OemSum w q (xor s etx)) r)
+unfolding stepOf
+step-oem-end r u w q s = refl
+
+-- in the checksum place no byte begins a frame
+pub step-oem-sum : (r : Receiver) (u : ℕ) (w : Frame) (q s c : ℕ)
+    → stepOf (placed (Place.OemSum w q s) r) u c
+    ≡ cond (eqb c s) (finished w (Framing.Oem q) (placed Place.Outside r)) (quiet (placed Place.Outside r))
+unfolding stepOf
+step-oem-sum r u w q s c = simp and-no
+
+-- WHAT A BYTE COMPLETES
+abbrev Completing : Place → ℕ → Stepped → Type 0
+Completing p b t = obeyed (t .frame) ≡ true → Ends p b (t .frame) (t .framing) × (t .receiver .place ≡ Place.Outside)
+
+nothing-done : (p : Place) (b : ℕ) (r : Receiver) → Completing p b (quiet r)
+nothing-done p b r o = absurd (true≢false (sym o))
+
+finished-oem : (w : Frame) (q s b : ℕ) (r : Receiver) → b ≡ s
+    → Completing (Place.OemSum w q s) b (finished w (Framing.Oem q) (placed Place.Outside r))
+finished-oem Frame.Nothing q s b r e o = absurd (true≢false (sym o))
+finished-oem Frame.Alone q s b r e o = (rw e (Ends.oem Frame.Alone q s o), refl)
+finished-oem Frame.Group q s b r e o = (rw e (Ends.oem Frame.Group q s o), refl)
+
+taken-ends : (p : Place) (u b : ℕ) (r : Receiver) → Completing p b (taken p u b r)
+taken-ends Place.Outside u b r = nothing-done Place.Outside b r
+taken-ends Place.Address u b r =
+    cases (Completing Place.Address b) (eqb b cr) (λ e. nothing-done Place.Address b (placed Place.Outside r))
+    (λ e. nothing-done Place.Address b (begun (calledOf u b) r))
+taken-ends Place.Alone u b r =
+    cases (Completing Place.Alone b) (eqb b cr) (λ e o. (rw (eqb-true b cr e) Ends.plain-alone, refl))
+    (λ e. nothing-done Place.Alone b (stored b r))
+taken-ends Place.Group u b r =
+    cases (Completing Place.Group b) (eqb b cr) (λ e o. (rw (eqb-true b cr e) Ends.plain-group, refl))
+    (λ e. nothing-done Place.Group b (stored b r))
+taken-ends Place.OemAddress u b r = λ o. absurd (true≢false (sym o))
+taken-ends (Place.OemSequence w s) u b r = λ o. absurd (true≢false (sym o))
+taken-ends (Place.OemBody w q s) u b r = λ o. absurd (true≢false (sym o))
+taken-ends (Place.OemSum w q s) u b r =
+    cases (Completing (Place.OemSum w q s) b) (eqb b s) (λ e. finished-oem w q s b r (eqb-true b s e))
+    (λ e. nothing-done (Place.OemSum w q s) b (placed Place.Outside r))
+
+-- a byte that completes a frame ends the one in which the receiver stands, and takes it outside
+pub ends-at : (r : Receiver) (u b : ℕ) → obeyed (stepOf r u b .frame) ≡ true
+    → Ends (r .place) b (stepOf r u b .frame) (stepOf r u b .framing) × (stepOf r u b .receiver .place ≡ Place.Outside)
+ends-at r u b =
+    step-cases (Completing (r .place) b) r u b (nothing-done (r .place) b (placed Place.Address r))
+    (nothing-done (r .place) b (placed Place.OemAddress r))
+    (taken-ends (r .place) u b r)
 
 -- THE RECORD STAYS SOUND
+pub sound-placed : (p : Place) (r : Receiver) → Sound r → Sound (placed p r)
+sound-placed p r s = record { full = s .full; within = s .within }
+
 sound-stored : (b : ℕ) (r : Receiver) → Sound r → Sound (stored b r)
 unfolding stored
 sound-stored b r s =
@@ -80,19 +185,43 @@ sound-begun Frame.Nothing r s = record { full = s .full; within = s .within }
 sound-begun Frame.Alone r s = record { full = s .full; within = omega arith }
 sound-begun Frame.Group r s = record { full = s .full; within = omega arith }
 
-sound-taken : (p : Place) (u b : ℕ) (r : Receiver) → Sound r → Sound (taken p u b r)
+sound-begun-oem : (w : Frame) (q t : ℕ) (r : Receiver) → Sound r → Sound (begunOem w q t r)
+sound-begun-oem Frame.Nothing q t r s = record { full = s .full; within = s .within }
+sound-begun-oem Frame.Alone q t r s = record { full = s .full; within = omega arith }
+sound-begun-oem Frame.Group q t r s = record { full = s .full; within = omega arith }
+
+sound-stored-for : (w : Frame) (b : ℕ) (r : Receiver) → Sound r → Sound (storedFor w b r)
+sound-stored-for Frame.Nothing b r s = s
+sound-stored-for Frame.Alone b r s = sound-stored b r s
+sound-stored-for Frame.Group b r s = sound-stored b r s
+
+sound-finished : (w : Frame) (g : Framing) (r : Receiver) → Sound r → Sound (finished w g r .receiver)
+sound-finished Frame.Nothing g r s = s
+sound-finished Frame.Alone g r s = s
+sound-finished Frame.Group g r s = s
+
+abbrev SoundAfter : Stepped → Type 0
+SoundAfter t = Sound (t .receiver)
+
+sound-taken : (p : Place) (u b : ℕ) (r : Receiver) → Sound r → Sound (taken p u b r .receiver)
 sound-taken Place.Outside u b r s = s
-sound-taken Place.Address u b r s = sound-begun (calledOf u b) r s
-sound-taken Place.Alone u b r s = sound-stored b r s
-sound-taken Place.Group u b r s = sound-stored b r s
+sound-taken Place.Address u b r s =
+    cases SoundAfter (eqb b cr) (λ e. sound-placed Place.Outside r s) (λ e. sound-begun (calledOf u b) r s)
+sound-taken Place.Alone u b r s =
+    cases SoundAfter (eqb b cr) (λ e. sound-placed Place.Outside r s) (λ e. sound-stored b r s)
+sound-taken Place.Group u b r s =
+    cases SoundAfter (eqb b cr) (λ e. sound-placed Place.Outside r s) (λ e. sound-stored b r s)
+sound-taken Place.OemAddress u b r s =
+    cases Sound (eqb b etx) (λ e. sound-placed Place.Outside r s) (λ e. sound-placed _ r s)
+sound-taken (Place.OemSequence w t) u b r s =
+    cases Sound (eqb b etx) (λ e. sound-placed Place.Outside r s) (λ e. sound-begun-oem (heard w b) b (xor t b) r s)
+sound-taken (Place.OemBody w q t) u b r s =
+    cases Sound (eqb b etx) (λ e. sound-placed _ r s) (λ e. sound-stored-for w b _ (sound-placed _ r s))
+sound-taken (Place.OemSum w q t) u b r s =
+    cases SoundAfter (eqb b t) (λ e. sound-finished w (Framing.Oem q) _ (sound-placed Place.Outside r s))
+    (λ e. sound-placed Place.Outside r s)
 
 pub sound-step : (r : Receiver) (u b : ℕ) → Sound r → Sound (stepOf r u b .receiver)
-unfolding stepOf
 sound-step r u b s =
-    elim (bool (eqb b slash)) [
-      | inl e ↦ simp e (record { full = s .full; within = s .within })
-      | inr e ↦ elim (bool (eqb b cr)) [
-        | inl f ↦ simp (e, f) (record { full = s .full; within = s .within })
-        | inr f ↦ simp (e, f) (sound-taken (r .place) u b r s)
-      ]
-    ]
+    step-cases SoundAfter r u b (sound-placed Place.Address r s) (sound-placed Place.OemAddress r s)
+    (sound-taken (r .place) u b r s)

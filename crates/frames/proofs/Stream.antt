@@ -10,13 +10,13 @@ use mathlib.Core.Logic.{inl, inr}
 use mathlib.Core.List.{List, [], _∷_, _++_}
 use lib.ListN.{length, drop, getD}
 use lib.Seq.{drop-cons}
-use lib.Dec.{eqb}
-use borrow.Author.Tests.{eqb-true}
 use Rattle.frames.specs.declared.Place.{Place}
 use Rattle.frames.specs.declared.Frame.{Frame}
-use Rattle.frames.specs.Receive.{Receiver, Received, slash, cr, Stepped, obeyed, completed, quiet, stepOf, past, ended, onward, receiveOf}
+use Rattle.frames.specs.declared.Framing.{Framing}
+use Rattle.frames.specs.Receive.{Receiver, Received, Stepped, obeyed, quiet, stepOf, past, ended, onward, receiveOf}
 use Rattle.frames.specs.Claims.{FirstEnd, Sound}
-use Rattle.frames.proofs.Steps.{bool, sound-step}
+use Rattle.frames.proofs.Steps.{ends-at, sound-step}
+use Rattle.frames.proofs.Bools.{bool}
 
 -- a frame that is obeyed is not nothing, and one that is not is nothing
 pub something : {f : Frame} → obeyed f ≡ true → f ≡ Frame.Nothing → ⊥
@@ -101,6 +101,15 @@ all-given r u (b ∷ bs) n =
     (λ e m. rw one-add (ap suc (all-given (stepOf r u b .receiver) u bs m)))
     n
 
+pub untold : (r : Receiver) (u : ℕ) (xs : List ℕ) → receiveOf r u xs .frame ≡ Frame.Nothing
+    → receiveOf r u xs .framing ≡ Framing.Plain
+unfolding receiveOf
+untold r u [] n = refl
+untold r u (b ∷ bs) n =
+    receive-cases (λ f. f .frame ≡ Frame.Nothing → f .framing ≡ Framing.Plain) r u b bs (λ e m. absurd (something e m))
+    (λ e m. untold (stepOf r u b .receiver) u bs m)
+    n
+
 -- bytes that complete nothing may come in a call of their own
 pub cut : (r : Receiver) (u : ℕ) (xs ys : List ℕ) → receiveOf r u xs .frame ≡ Frame.Nothing
     → receiveOf r u (xs ++ ys) ≡ past (length xs) (receiveOf (receiveOf r u xs .receiver) u ys)
@@ -125,19 +134,6 @@ rest r u (b ∷ xs) ys o =
     (λ e m. receive-goes r u b (xs ++ ys) e ∙ ap (past 1) (rest (stepOf r u b .receiver) u xs ys m))
     o
 
--- a byte that completes a frame is the CR of the body in which the receiver stands
-ends-at : (r : Receiver) (u b : ℕ) → obeyed (stepOf r u b .frame) ≡ true
-    → (b ≡ cr) × (completed (r .place) ≡ stepOf r u b .frame)
-unfolding stepOf
-ends-at r u b o =
-    elim (bool (eqb b slash)) [
-      | inl e ↦ absurd (true≢false (sym (simp e at o)))
-      | inr e ↦ elim (bool (eqb b cr)) [
-        | inl f ↦ (eqb-true b cr f, simp (e, f))
-        | inr f ↦ absurd (true≢false (sym (simp (e, f) at o)))
-      ]
-    ]
-
 pub first : (r : Receiver) (u : ℕ) (xs : List ℕ) → obeyed (receiveOf r u xs .frame) ≡ true
     → FirstEnd r u xs (receiveOf r u xs)
 unfolding receiveOf
@@ -147,16 +143,18 @@ first r u (b ∷ bs) o =
     (λ e m.
     record {
       before = [];
+      last = b;
       after = bs;
-      split = ap (λ (x : ℕ). x ∷ bs) (ends-at r u b e .0);
+      split = refl;
       nothing = refl;
-      ends = ends-at r u b e .1;
+      ends = ends-at r u b e .0;
       count = omega arith;
     })
     (λ e m.
     let t = first (stepOf r u b .receiver) u bs m in
     record {
       before = b ∷ t .before;
+      last = t .last;
       after = t .after;
       split = ap (λ (l : List ℕ). b ∷ l) (t .split);
       nothing = rw (receive-goes r u b (t .before) e) (t .nothing);
@@ -165,21 +163,12 @@ first r u (b ∷ bs) o =
     })
     o
 
--- and it takes the receiver outside
-ends-outside : (r : Receiver) (u b : ℕ) → obeyed (stepOf r u b .frame) ≡ true → stepOf r u b .receiver .place ≡ Place.Outside
-unfolding stepOf
-ends-outside r u b o =
-    elim (bool (eqb b slash)) [
-      | inl e ↦ absurd (true≢false (sym (simp e at o)))
-      | inr e ↦ elim (bool (eqb b cr)) [ inl f ↦ simp (e, f) | inr f ↦ absurd (true≢false (sym (simp (e, f) at o))) ]
-    ]
-
 pub outside : (r : Receiver) (u : ℕ) (xs : List ℕ) → obeyed (receiveOf r u xs .frame) ≡ true
     → receiveOf r u xs .receiver .place ≡ Place.Outside
 unfolding receiveOf
 outside r u [] o = absurd (true≢false (sym o))
 outside r u (b ∷ bs) o =
-    receive-cases (λ f. obeyed (f .frame) ≡ true → f .receiver .place ≡ Place.Outside) r u b bs (λ e m. ends-outside r u b e)
+    receive-cases (λ f. obeyed (f .frame) ≡ true → f .receiver .place ≡ Place.Outside) r u b bs (λ e m. ends-at r u b e .1)
     (λ e m. outside (stepOf r u b .receiver) u bs m)
     o
 

@@ -1,21 +1,28 @@
-// The receiver of one unit: the frames for it and its groups, out of the bytes of the line. 01, "Frames".
+// The receiver of one unit: the frames for it and its groups, in both framings, out of the bytes of the line. 01, "Frames"; 02, E1.
 ghost use mathlib.Core.Path.{_≡_};
 ghost use mathlib.Core.List.{List};
-ghost use Prim.Native.Nat.{ℕ};
+ghost use Prim.Native.Nat.{ℕ, _<_};
+ghost use mathlib.Core.Bool.{true, not};
+ghost use lib.ListN.{length};
 ghost use Rattle.frames.specs.Addresses.{calledOf};
-ghost use Rattle.frames.specs.Receive.{receiverAt, receiverOf, heardWith, freshProgress, obeyed, quiet, begun, stored, completed};
-ghost use Rattle.frames.specs.Receive.{stepOf, receiveOf};
-ghost use Rattle.frames.specs.Pieces.{outsideOf, wholeOf, steppedAt};
+ghost use Rattle.frames.specs.Receive.{obeyed, receiverAt, receiverOf, heardWith, freshProgress, quiet, finished, begun, stored, closed};
+ghost use Rattle.frames.specs.Receive.{heard, begunOem, begins, elsewhere, taken, stepOf, receiveOf};
+ghost use Rattle.frames.specs.Pieces.{completed, isOutside, leavesBody, inPlain, quietAt, wholeOf, steppedAt, Advances};
 ghost use Rattle.frames.specs.declared.Place.{Place};
 ghost use Rattle.frames.specs.Claims.{FrameClaims};
 
-// Where the receiver stands: outside a frame, in the address place, or in the body of a frame for this unit alone or for a
-// group of it.
+// Where the receiver stands: outside a frame; of a plain frame in the address place, or in the body of one for this unit alone
+// or for a group of it; of an OEM frame in the address place, the sequence place, the body or the checksum place, with whom it
+// is for, its sequence byte, and the sum of its bytes so far.
 pub enum Place {
     Outside,
     Address,
     Alone,
     Group,
+    OemAddress,
+    OemSequence(Frame, u8),
+    OemBody(Frame, u8, u8),
+    OemSum(Frame, u8, u8),
 }
 
 // What has been completed: nothing, a frame for this unit alone, or one for a group of it.
@@ -25,6 +32,12 @@ pub enum Frame {
     Group,
 }
 
+// How it was framed, an OEM frame with its sequence byte; plain where nothing has been completed.
+pub enum Framing {
+    Plain,
+    Oem(u8),
+}
+
 // How far a receiver is: where it stands, and how many bytes of the body it keeps. The body lies where the caller lends it;
 // what stands behind its bytes is left from earlier frames.
 pub struct Progress {
@@ -32,17 +45,28 @@ pub struct Progress {
     pub place: Place,
 }
 
-// How far a feed call brings it, how many bytes it consumed, and what they completed.
+// How far a feed call brings it, how many bytes it consumed, and what they completed, in which framing.
 pub struct Heard {
     pub progress: Progress,
     pub consumed: usize,
     pub frame: Frame,
+    pub framing: Framing,
 }
 
 // A frame is `/`, an address byte, a body, CR.
 const SLASH: u8 = b'/';
 
 const CR: u8 = 13;
+
+// An OEM frame is 02, an address byte, a sequence byte, a body, 03, the checksum of all these.
+const STX: u8 = 2;
+
+const ETX: u8 = 3;
+
+// Sequence bytes are 30 to 3F hex.
+const FIRST_SEQUENCE: u8 = 0x30;
+
+const LAST_SEQUENCE: u8 = 0x3F;
 
 // The body has 0 to 256 bytes; one more is kept of a longer one.
 const MOST_KEPT: usize = 257;
@@ -68,7 +92,7 @@ pub fn fresh() -> Progress
     }
 }
 
-// The bytes up to and with the CR of the first frame for this unit or its groups, else all.
+// The bytes up to and with the CR or the checksum of the first frame for this unit or its groups, else all.
 pub fn receive(p: Progress, body: &mut [u8; MOST_KEPT], unit: u8, bytes: &[u8]) -> Heard
     ensures { λ h. ⌜
         heardWith h (now (body .exit)) ≡ receiveOf (receiverOf p (now (body .entry))) unit (now (bytes .entry))
@@ -80,18 +104,20 @@ pub fn receive(p: Progress, body: &mut [u8; MOST_KEPT], unit: u8, bytes: &[u8]) 
         place,
         length,
         frame: Frame::Nothing,
+        framing: Framing::Plain,
     };
     let mut i: usize = 0;
     while i < bytes.len() {
-        let b = bytes[i];
-        h = step(h, body, unit, b);
-        i += 1;
+        let a = advance(h, body, unit, bytes, i);
+        h = a.head;
+        i = a.next;
         let f = h.frame;
         if ends(f) {
-            return apart(h, i, f);
+            let g = h.framing;
+            return apart(h, i, f, g);
         }
     }
-    apart(h, i, Frame::Nothing)
+    apart(h, i, Frame::Nothing, Framing::Plain)
 }
 
 // The receiver without its body, and what the last byte completed.
@@ -99,11 +125,21 @@ struct Head {
     place: Place,
     length: usize,
     frame: Frame,
+    framing: Framing,
+}
+
+// Where it is after some bytes, and the place of the next one.
+struct Advanced {
+    head: Head,
+    next: usize,
 }
 
 // What a feed call answers where it ends at h.
-fn apart(h: Head, consumed: usize, frame: Frame) -> Heard
-    ensures { λ r. ⌜ ((body : List ℕ) → heardWith r body ≡ record { receiver = wholeOf h body; consumed = consumed; frame = frame }) ⌝ }
+fn apart(h: Head, consumed: usize, frame: Frame, framing: Framing) -> Heard
+    ensures { λ r. ⌜
+        ((body : List ℕ)
+        → heardWith r body ≡ record { receiver = wholeOf h body; consumed = consumed; frame = frame; framing = framing })
+        ⌝ }
 {
     let place = h.place;
     let length = h.length;
@@ -111,6 +147,7 @@ fn apart(h: Head, consumed: usize, frame: Frame) -> Heard
         progress: Progress { place, length },
         consumed,
         frame,
+        framing,
     }
 }
 
@@ -125,37 +162,192 @@ fn ends(f: Frame) -> bool
     }
 }
 
-// What one byte makes of the receiver.
-fn step(h: Head, body: &mut [u8; MOST_KEPT], unit: u8, b: u8) -> Head
-    ensures { λ s. ⌜ steppedAt s (now (body .exit)) ≡ stepOf (wholeOf h (now (body .entry))) unit b ⌝ }
+// One byte more, or many at once: most stand in a plain body or outside a frame.
+fn advance(h: Head, body: &mut [u8; MOST_KEPT], unit: u8, bytes: &[u8], i: usize) -> Advanced
+    requires { ⌜ i < length (now bytes) ⌝ }
+    ensures { λ a. ⌜ Advances (wholeOf h (now (body .entry))) unit (now (bytes .entry)) i a (now (body .exit)) ⌝ }
 {
     let place = h.place;
     let length = h.length;
-    if b == SLASH {
-        return Head {
-            place: Place::Address,
-            length,
-            frame: Frame::Nothing,
-        };
-    }
-    if b == CR {
-        return Head {
-            place: Place::Outside,
-            length,
-            frame: completes(place),
-        };
-    }
     if inside(place) {
-        return store(place, length, body, b);
+        return keep(place, length, body, bytes, i);
     }
     if outside(place) {
-        return Head {
-            place,
-            length,
-            frame: Frame::Nothing,
-        };
+        return look_out(length, bytes, i);
     }
-    begin(length, called(unit, b))
+    let b = bytes[i];
+    Advanced {
+        head: step(place, length, body, unit, b),
+        next: i + 1,
+    }
+}
+
+// The bytes of a plain body, up to and with the one that ends it.
+fn keep(place: Place, kept: usize, body: &mut [u8; MOST_KEPT], bytes: &[u8], i: usize) -> Advanced
+    requires { ⌜ (i < length (now bytes)) × (obeyed (completed place) ≡ true) ⌝ }
+    ensures { λ a. ⌜ ((u : ℕ) → Advances (receiverAt place kept (now (body .entry))) u (now (bytes .entry)) i a (now (body .exit))) ⌝ }
+{
+    let mut n = kept;
+    let mut next = i;
+    while next < bytes.len() {
+        let b = bytes[next];
+        next += 1;
+        if leaves(b) {
+            return Advanced {
+                head: leave(completes(place), n, b),
+                next,
+            };
+        }
+        if n < MOST_KEPT {
+            body[n] = b;
+            n += 1;
+        }
+    }
+    Advanced {
+        head: at(place, n),
+        next,
+    }
+}
+
+// The bytes outside a frame, up to and with the one that begins one.
+fn look_out(kept: usize, bytes: &[u8], i: usize) -> Advanced
+    requires { ⌜ i < length (now bytes) ⌝ }
+    ensures { λ a. ⌜ ((u : ℕ) (body : List ℕ) → Advances (receiverAt Place.Outside kept body) u (now (bytes .entry)) i a body) ⌝ }
+{
+    let mut next = i;
+    while next < bytes.len() {
+        let b = bytes[next];
+        next += 1;
+        if b == SLASH {
+            return Advanced {
+                head: at(Place::Address, kept),
+                next,
+            };
+        }
+        if b == STX {
+            return Advanced {
+                head: at(Place::OemAddress, kept),
+                next,
+            };
+        }
+    }
+    Advanced {
+        head: at(Place::Outside, kept),
+        next,
+    }
+}
+
+// What one byte makes of the receiver.
+fn step(place: Place, length: usize, body: &mut [u8; MOST_KEPT], unit: u8, b: u8) -> Head
+    ensures { λ s. ⌜ steppedAt s (now (body .exit)) ≡ stepOf (receiverAt place length (now (body .entry))) unit b ⌝ }
+{
+    if opens(SLASH, place, b) {
+        return at(Place::Address, length);
+    }
+    if opens(STX, place, b) {
+        return at(Place::OemAddress, length);
+    }
+    take(place, length, body, unit, b)
+}
+
+// Whether b is the byte x that begins a frame, and not in the checksum place.
+fn opens(x: u8, p: Place, b: u8) -> bool
+    ensures { λ r. ⌜ r ≡ begins x p b ⌝ }
+{
+    if b == x {
+        return !summing(p);
+    }
+    false
+}
+
+// Whether the receiver stands in the checksum place.
+fn summing(p: Place) -> bool
+    ensures { λ r. ⌜ r ≡ not (elsewhere p) ⌝ }
+{
+    match p {
+        Place::Outside => false,
+        Place::Address => false,
+        Place::Alone => false,
+        Place::Group => false,
+        Place::OemAddress => false,
+        Place::OemSequence(_, _) => false,
+        Place::OemBody(_, _, _) => false,
+        Place::OemSum(_, _, _) => true,
+    }
+}
+
+// A byte that begins no frame.
+fn take(place: Place, length: usize, body: &mut [u8; MOST_KEPT], unit: u8, b: u8) -> Head
+    ensures { λ s. ⌜
+        steppedAt s (now (body .exit)) ≡ taken place unit b (receiverAt place length (now (body .entry)))
+        ⌝ }
+{
+    match place {
+        Place::Outside => at(place, length),
+        Place::Address => in_address(length, unit, b),
+        Place::Alone => add(Frame::Alone, Place::Alone, length, body, b),
+        Place::Group => add(Frame::Group, Place::Group, length, body, b),
+        Place::OemAddress => in_oem_address(length, unit, b),
+        Place::OemSequence(w, s) => in_oem_sequence(w, s, length, b),
+        Place::OemBody(w, q, s) => in_oem_body(w, q, s, length, body, b),
+        Place::OemSum(w, q, s) => in_oem_sum(w, q, s, length, b),
+    }
+}
+
+// Whether the receiver stands in a plain body.
+fn inside(p: Place) -> bool
+    ensures { λ r. ⌜ r ≡ obeyed (completed p) ⌝ }
+{
+    ends(completes(p))
+}
+
+// Whether it stands outside a frame.
+fn outside(p: Place) -> bool
+    ensures { λ r. ⌜ r ≡ isOutside p ⌝ }
+{
+    match p {
+        Place::Outside => true,
+        Place::Address => false,
+        Place::Alone => false,
+        Place::Group => false,
+        Place::OemAddress => false,
+        Place::OemSequence(_, _) => false,
+        Place::OemBody(_, _, _) => false,
+        Place::OemSum(_, _, _) => false,
+    }
+}
+
+// The receiver there, and nothing completed.
+fn at(place: Place, length: usize) -> Head
+    ensures { λ s. ⌜ s ≡ quietAt place length ⌝ }
+{
+    Head {
+        place,
+        length,
+        frame: Frame::Nothing,
+        framing: Framing::Plain,
+    }
+}
+
+// A plain frame is complete, or an OEM one; of one for others nothing is told.
+fn finish(w: Frame, g: Framing, length: usize) -> Head
+    ensures { λ s. ⌜ ((body : List ℕ) → steppedAt s body ≡ finished w g (receiverAt Place.Outside length body)) ⌝ }
+{
+    match w {
+        Frame::Nothing => at(Place::Outside, length),
+        Frame::Alone => Head {
+            place: Place::Outside,
+            length,
+            frame: Frame::Alone,
+            framing: g,
+        },
+        Frame::Group => Head {
+            place: Place::Outside,
+            length,
+            frame: Frame::Group,
+            framing: g,
+        },
+    }
 }
 
 // What a CR completes.
@@ -167,31 +359,52 @@ fn completes(p: Place) -> Frame
         Place::Address => Frame::Nothing,
         Place::Alone => Frame::Alone,
         Place::Group => Frame::Group,
+        Place::OemAddress => Frame::Nothing,
+        Place::OemSequence(_, _) => Frame::Nothing,
+        Place::OemBody(_, _, _) => Frame::Nothing,
+        Place::OemSum(_, _, _) => Frame::Nothing,
     }
 }
 
-// Whether the receiver stands in a body.
-fn inside(p: Place) -> bool
-    ensures { λ r. ⌜ r ≡ obeyed (completed p) ⌝ }
+// Whether a byte ends a plain body: the CR, or a new frame.
+fn leaves(b: u8) -> bool
+    ensures { λ r. ⌜ r ≡ leavesBody b ⌝ }
 {
-    match p {
-        Place::Outside => false,
-        Place::Address => false,
-        Place::Alone => true,
-        Place::Group => true,
+    if b == CR {
+        return true;
     }
+    if b == STX {
+        return true;
+    }
+    b == SLASH
 }
 
-// Whether it stands outside a frame.
-fn outside(p: Place) -> bool
-    ensures { λ r. ⌜ r ≡ outsideOf p ⌝ }
+// What such a byte makes of the receiver in the body of a frame for w.
+fn leave(w: Frame, length: usize, b: u8) -> Head
+    requires { ⌜ leavesBody b ≡ true ⌝ }
+    ensures { λ s. ⌜ ((p : Place) (body : List ℕ) → steppedAt s body ≡ inPlain w b (receiverAt p length body)) ⌝ }
 {
-    match p {
-        Place::Outside => true,
-        Place::Address => false,
-        Place::Alone => false,
-        Place::Group => false,
+    if b == SLASH {
+        return at(Place::Address, length);
     }
+    if b == STX {
+        return at(Place::OemAddress, length);
+    }
+    finish(w, Framing::Plain, length)
+}
+
+// The CR of a frame for w, or one byte more.
+fn add(w: Frame, place: Place, length: usize, body: &mut [u8; MOST_KEPT], b: u8) -> Head
+    ensures { λ s. ⌜
+        steppedAt s (now (body .exit))
+        ≡ closed w b (receiverAt place length (now (body .entry)))
+        (quiet (stored b (receiverAt place length (now (body .entry)))))
+        ⌝ }
+{
+    if b == CR {
+        return finish(w, Framing::Plain, length);
+    }
+    store(place, length, body, b)
 }
 
 // One body byte more, where it is kept.
@@ -200,17 +413,19 @@ fn store(place: Place, length: usize, body: &mut [u8; MOST_KEPT], b: u8) -> Head
 {
     if length < MOST_KEPT {
         body[length] = b;
-        return Head {
-            place,
-            length: length + 1,
-            frame: Frame::Nothing,
-        };
+        return at(place, length + 1);
     }
-    Head {
-        place,
-        length,
-        frame: Frame::Nothing,
+    at(place, length)
+}
+
+// In the address place of a plain frame.
+fn in_address(length: usize, unit: u8, b: u8) -> Head
+    ensures { λ s. ⌜ ((body : List ℕ) → steppedAt s body ≡ taken Place.Address unit b (receiverAt Place.Address length body)) ⌝ }
+{
+    if b == CR {
+        return at(Place::Outside, length);
     }
+    begin(length, called(unit, b))
 }
 
 // After an address byte that calls c: a body begins, or the frame is not looked at.
@@ -218,22 +433,90 @@ fn begin(length: usize, c: Frame) -> Head
     ensures { λ s. ⌜ ((p : Place) (body : List ℕ) → steppedAt s body ≡ quiet (begun c (receiverAt p length body))) ⌝ }
 {
     match c {
-        Frame::Nothing => Head {
-            place: Place::Outside,
-            length,
-            frame: Frame::Nothing,
-        },
-        Frame::Alone => Head {
-            place: Place::Alone,
-            length: 0,
-            frame: Frame::Nothing,
-        },
-        Frame::Group => Head {
-            place: Place::Group,
-            length: 0,
-            frame: Frame::Nothing,
-        },
+        Frame::Nothing => at(Place::Outside, length),
+        Frame::Alone => at(Place::Alone, 0),
+        Frame::Group => at(Place::Group, 0),
     }
+}
+
+// In the address place of an OEM frame.
+fn in_oem_address(length: usize, unit: u8, b: u8) -> Head
+    ensures { λ s. ⌜ ((body : List ℕ) → steppedAt s body ≡ taken Place.OemAddress unit b (receiverAt Place.OemAddress length body)) ⌝ }
+{
+    if b == ETX {
+        return at(Place::Outside, length);
+    }
+    at(
+        Place::OemSequence(called(unit, b), checksum::with_byte(STX, b)),
+        length,
+    )
+}
+
+// In the sequence place.
+fn in_oem_sequence(w: Frame, s: u8, length: usize, b: u8) -> Head
+    ensures { λ r. ⌜
+        ((u : ℕ) (body : List ℕ)
+        → steppedAt r body ≡ taken (Place.OemSequence w s) u b (receiverAt (Place.OemSequence w s) length body))
+        ⌝ }
+{
+    if b == ETX {
+        return at(Place::Outside, length);
+    }
+    begin_oem(hear(w, b), b, checksum::with_byte(s, b), length)
+}
+
+// Whom a frame with this sequence byte is still for.
+fn hear(w: Frame, q: u8) -> Frame
+    ensures { λ f. ⌜ f ≡ heard w q ⌝ }
+{
+    if q < FIRST_SEQUENCE {
+        return Frame::Nothing;
+    }
+    if LAST_SEQUENCE < q {
+        return Frame::Nothing;
+    }
+    w
+}
+
+// After the sequence byte.
+fn begin_oem(w: Frame, q: u8, s: u8, length: usize) -> Head
+    ensures { λ r. ⌜ ((p : Place) (body : List ℕ) → steppedAt r body ≡ quiet (begunOem w q s (receiverAt p length body))) ⌝ }
+{
+    if ends(w) {
+        return at(Place::OemBody(w, q, s), 0);
+    }
+    at(Place::OemBody(w, q, s), length)
+}
+
+// In an OEM body.
+fn in_oem_body(w: Frame, q: u8, s: u8, length: usize, body: &mut [u8; MOST_KEPT], b: u8) -> Head
+    ensures { λ r. ⌜
+        ((u : ℕ)
+        → steppedAt r (now (body .exit))
+        ≡ taken (Place.OemBody w q s) u b (receiverAt (Place.OemBody w q s) length (now (body .entry))))
+        ⌝ }
+{
+    let sum = checksum::with_byte(s, b);
+    if b == ETX {
+        return at(Place::OemSum(w, q, sum), length);
+    }
+    if ends(w) {
+        return store(Place::OemBody(w, q, sum), length, body, b);
+    }
+    at(Place::OemBody(w, q, sum), length)
+}
+
+// In the checksum place.
+fn in_oem_sum(w: Frame, q: u8, s: u8, length: usize, b: u8) -> Head
+    ensures { λ r. ⌜
+        ((u : ℕ) (body : List ℕ)
+        → steppedAt r body ≡ taken (Place.OemSum w q s) u b (receiverAt (Place.OemSum w q s) length body))
+        ⌝ }
+{
+    if b == s {
+        return finish(w, Framing::Oem(q), length);
+    }
+    at(Place::Outside, length)
 }
 
 // Whom an address byte calls: this unit alone, a group of it, or neither.

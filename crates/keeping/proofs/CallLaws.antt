@@ -17,11 +17,10 @@ use Rattle.lines.proofs.BodyLaws.{no-bytes}
 use Rattle.lines.proofs.TakenLaws.{text-checked}
 use Rattle.image.specs.Image.{rightLength, slotText}
 use Rattle.image.proofs.HeldLaws.{text-passes, text-fits}
-use Rattle.frames.specs.Receive.{bodyIn}
 use Rattle.turns.specs.declared.Core.{Core}
 use Rattle.turns.specs.Turns.{freshCore, turnCore}
 use Rattle.drive.specs.Unit.{Drive}
-use Rattle.drive.specs.Calls.{begunWith, freshUnit, receivedBy, Feeding, feedOf, mostSample, Turning, turnOf}
+use Rattle.drive.specs.Calls.{begunWith, freshUnit, receivedBy, bodyBy, Feeding, feedOf, mostSample, Turning, turnOf}
 use Rattle.obeying.specs.Deeds.{loads}
 use Rattle.drive.proofs.FeedLaws.{frame-does}
 use Rattle.keeping.specs.Kept.{Kept, Holds, CallsKeep}
@@ -48,7 +47,7 @@ module _ {P : List ℕ → Core → Type 0} (k : Kept P) where
   feeds u bytes image buffer h =
       let g = receivedBy u bytes in
       cases Q (ltb (length buffer) packetBytes) (λ b. h)
-      (λ b. cases Q (rightLength image) (λ i. k .obeys h (frame-does (g .frame) (bodyIn (g .receiver)) (u .core))) (λ i. h))
+      (λ b. cases Q (rightLength image) (λ i. k .obeys h (frame-does (g .frame) (bodyBy u bytes) (u .core))) (λ i. h))
     where
       Q : Feeding → Type 0
       Q r = Holds P (r .unit)

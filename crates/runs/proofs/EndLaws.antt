@@ -17,8 +17,7 @@ use Rattle.drive.specs.Unit.{Drive}
 use Rattle.obeying.specs.declared.Obeyed.{Obeyed}
 use Rattle.drive.specs.Calls.{Turning}
 use Rattle.obeying.specs.Obeying.{bodyObeyed}
-use Rattle.frames.specs.Receive.{bodyIn}
-use Rattle.drive.specs.Calls.{receivedBy}
+use Rattle.drive.specs.Calls.{receivedBy, bodyBy}
 use Rattle.obeying.specs.Deeds.{Obeys, refuses, tells, stores, clears, stops, resumes, again, loads}
 use Rattle.obeying.proofs.DeedLaws.{body-does}
 use Rattle.runs.specs.Reach.{Call, Feed, Turn, after, textOf}
@@ -59,8 +58,8 @@ module _ (u : Drive) (h : SoundUnit u) (run : u .core .running ≡ true) where
       feed-cases u bytes image buffer (λ (text : List ℕ) (c : Core). c .running ≡ false → Cause u (Feed bytes image buffer) (c .code))
       (λ q. clash run q)
       (λ d q. let g = receivedBy u bytes in
-      let f = framed (g .frame) (bodyIn (g .receiver)) (u .core) (d .frame-ours) in
-      let k = obeys-only (u .core) run (body-does (bodyIn (g .receiver)) (u .core)) (rw f at q) in
+      let f = framed (g .frame) (bodyBy u bytes) (u .core) (d .frame-ours) in
+      let k = obeys-only (u .core) run (body-does (bodyBy u bytes) (u .core)) (rw f at q) in
       rw (f, k .1 ∙ h .code-0 run)
       (terminate (record { buffer-right = d .buffer-right; image-right = d .image-right; frame-ours = d .frame-ours; is-T = k .0 })))
 
@@ -85,8 +84,8 @@ module _ (u : Drive) (h : SoundUnit u) (run : u .core .running ≡ true) where
   cause-ends c k (terminate {bytes} {image} {buffer} t) =
       let d = feed-done u bytes image buffer (record { buffer-right = t .buffer-right; image-right = t .image-right; frame-ours = t .frame-ours }) in
       let g = receivedBy u bytes in
-      let e = body-ends (u .core) run (bodyIn (g .receiver)) (t .is-T) in
-      rw (d, framed (g .frame) (bodyIn (g .receiver)) (u .core) (t .frame-ours)) (e .0, e .1 ∙ h .code-0 run)
+      let e = body-ends (u .core) run (bodyBy u bytes) (t .is-T) in
+      rw (d, framed (g .frame) (bodyBy u bytes) (u .core) (t .frame-ours)) (e .0, e .1 ∙ h .code-0 run)
   cause-ends c k (inTurn {sample} {ms} {steps} {image = image} m e) =
       subst (λ (v : Drive). (v .core .running ≡ false) × (v .core .code ≡ k)) (sym (turn-made u sample ms steps image m))
       (turn-each sample ms steps (u .text) image (u .core) k e run)

@@ -14,23 +14,23 @@ use Rattle.parts.proofs.Laws.{cases, put-in-room, put-front}
 use Rattle.digits.specs.Operand.{widest}
 use Rattle.answers.specs.Packet.{statusOf, mostData, packetBytes}
 use Rattle.answers.specs.Reading.{allPrintable, goodData}
-use Rattle.answers.specs.AnswerClaims.{ReadsAs}
-use Rattle.answers.proofs.Writing.{length-packet}
 use Rattle.answers.proofs.ReadBack.{reads-back, number-good}
+use Rattle.answers.proofs.OemLaws.{reads-back-oem}
+use Rattle.frames.specs.declared.Framing.{Framing}
 use Rattle.turns.specs.declared.Core.{Core}
 use Rattle.turns.specs.Turns.{started, ended}
 use Rattle.drive.specs.Unit.{Drive}
 use Rattle.obeying.specs.declared.Obeyed.{Obeyed}
 use Rattle.obeying.specs.declared.Tell.{Tell}
 use Rattle.obeying.specs.Obeying.{stepSize, dataOf, loadedAs, textWritten}
-use Rattle.frames.specs.Receive.{bodyIn}
-use Rattle.drive.specs.Calls.{answerTo, receivedBy, obeyedBy, textThen, feedOf}
-use Rattle.runs.specs.Packets.{Answers, answeredBy, toldBy, ReadBack}
+use Rattle.drive.specs.Calls.{answerTo, receivedBy, bodyBy, obeyedBy, textThen, feedOf}
+use Rattle.runs.specs.Packets.{Answers, answeredBy, toldBy, ReadIn, ReadBack}
 use Rattle.runs.proofs.SoundLaws.{Sound, SoundUnit}
 use Rattle.runs.proofs.CallLaws.{feed-done}
 use Rattle.runs.proofs.PrintLaws.{checked-printable}
 use Rattle.motor.specs.Deeds.{codeValues}
 use Rattle.obeying.specs.Deeds.{Tells, nothingTold, textTold, positionTold, speedTold, sampleTold, stepSizeTold, correctionTold, Obeys, refuses, tells, stores, clears, stops, resumes, again, loads}
+use Rattle.drive.proofs.AnswerLaws.{packet-fits}
 use Rattle.drive.proofs.FeedLaws.{frame-does}
 use Rattle.runs.proofs.FitLaws.{FitIn, FitUnit}
 
@@ -90,29 +90,33 @@ front-written buffer bytes h =
     rw (put-in-room buffer 0 bytes (omega arith), put-front buffer bytes) (take-append-seam bytes (drop (length bytes) buffer))
 
 -- no packet is longer than 262 bytes
-answer-most : (o : Obeyed) (text : List ℕ) → Tellable o text → length (answerTo o text) ≤ packetBytes
+answer-most : (g : Framing) (o : Obeyed) (text : List ℕ) → Tellable o text → length (answerTo g o text) ≤ packetBytes
 unfolding answerTo goodData
-answer-most o text t =
+answer-most g o text t =
     let d = dataOf (o .tell) (o .core .flow .length) text in
     let l = leb-true (length d) mostData (and-eq-true-iff (leb (length d) mostData) (allPrintable d) .0 (t .0) .0) in
-    omega (arith, length-packet (statusOf (not (o .core .running)) (o .code)) d)
+    packet-fits g (statusOf (not (o .core .running)) (o .code)) d l .1
 
 -- and each is read back
-answer-reads : (o : Obeyed) (text : List ℕ) → Tellable o text
-    → ReadsAs (answerTo o text) (not (o .core .running)) (o .code) (dataOf (o .tell) (o .core .flow .length) text)
+answer-reads : (g : Framing) (o : Obeyed) (text : List ℕ) → Tellable o text
+    → ReadIn g (answerTo g o text) (not (o .core .running)) (o .code) (dataOf (o .tell) (o .core .flow .length) text)
 unfolding answerTo
-answer-reads o text t = reads-back (not (o .core .running)) (o .code) (dataOf (o .tell) (o .core .flow .length) text) (t .0)
+answer-reads Framing.Plain o text t = reads-back (not (o .core .running)) (o .code) (dataOf (o .tell) (o .core .flow .length) text) (t .0)
+answer-reads (Framing.Oem q) o text t = reads-back-oem (not (o .core .running)) (o .code) (dataOf (o .tell) (o .core .flow .length) text) (t .0)
 
 module _ (u : Drive) (bytes image buffer : List ℕ) (a : Answers u bytes image buffer) where
   abbrev left : List ℕ
-  left = textThen (receivedBy u bytes) (obeyedBy u bytes) (u .text)
+  left = textThen (bodyBy u bytes) (obeyedBy u bytes) (u .text)
+
+  abbrev framing : Framing
+  framing = receivedBy u bytes .framing
 
   -- what an answered call leaves: how many bytes, the buffer, the core
-  answered-long : feedOf u bytes image buffer .answered ≡ length (answerTo (obeyedBy u bytes) left)
+  answered-long : feedOf u bytes image buffer .answered ≡ length (answerTo framing (obeyedBy u bytes) left)
   unfolding feedOf
   answered-long = rw (le-ltb (length buffer) packetBytes (a .buffer-right), a .image-right, a .frame-alone)
 
-  buffer-then : feedOf u bytes image buffer .buffer ≡ putIn buffer 0 (answerTo (obeyedBy u bytes) left)
+  buffer-then : feedOf u bytes image buffer .buffer ≡ putIn buffer 0 (answerTo framing (obeyedBy u bytes) left)
   unfolding feedOf
   buffer-then = rw (le-ltb (length buffer) packetBytes (a .buffer-right), a .image-right, a .frame-alone)
 
@@ -120,22 +124,21 @@ module _ (u : Drive) (bytes image buffer : List ℕ) (a : Answers u bytes image 
   core-then = feed-done u bytes image buffer (record { buffer-right = a .buffer-right; image-right = a .image-right; frame-ours = rw (a .frame-alone) })
 
   -- the bytes that the call answers are the packet
-  pub answer-is : SoundUnit u → FitUnit u → answeredBy u bytes image buffer ≡ answerTo (obeyedBy u bytes) left
+  pub answer-is : SoundUnit u → FitUnit u → answeredBy u bytes image buffer ≡ answerTo framing (obeyedBy u bytes) left
   answer-is s h =
       let o : Obeyed = obeyedBy u bytes in
-      let r = receivedBy u bytes in
-      let t : Tellable o left = obeys-told (u .core) (u .text) s h (frame-does (r .frame) (bodyIn (r .receiver)) (u .core)) in
-      rw (answered-long, buffer-then, front-written buffer (answerTo o left) (omega (arith, a .buffer-right, answer-most o left t)))
+      let t : Tellable o left = obeys-told (u .core) (u .text) s h (frame-does (receivedBy u bytes .frame) (bodyBy u bytes) (u .core)) in
+      rw (answered-long, buffer-then, front-written buffer (answerTo framing o left) (omega (arith, a .buffer-right, answer-most framing o left t)))
 
   pub read-back : SoundUnit u → FitUnit u → ReadBack u bytes image buffer
   read-back s h =
       let o : Obeyed = obeyedBy u bytes in
       let r = receivedBy u bytes in
-      let t : Tellable o left = obeys-told (u .core) (u .text) s h (frame-does (r .frame) (bodyIn (r .receiver)) (u .core)) in
-      let most = answer-most o left t in
+      let t : Tellable o left = obeys-told (u .core) (u .text) s h (frame-does (r .frame) (bodyBy u bytes) (u .core)) in
+      let most = answer-most framing o left t in
       record {
-        reads = rw (answered-long, buffer-then, front-written buffer (answerTo o left) (omega (arith, a .buffer-right)))
-            (subst (λ (c : Core). ReadsAs (answerTo o left) (not (c .running)) (o .code) (toldBy u bytes)) (sym core-then) (answer-reads o left t));
+        reads = rw (answered-long, buffer-then, front-written buffer (answerTo framing o left) (omega (arith, a .buffer-right)))
+            (subst (λ (c : Core). ReadIn framing (answerTo framing o left) (not (c .running)) (o .code) (toldBy u bytes)) (sym core-then) (answer-reads framing o left t));
         code-whole = omega (arith, t .1);
         fits = rw answered-long most;
       }

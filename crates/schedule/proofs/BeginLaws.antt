@@ -10,7 +10,6 @@ use Rattle.commands.specs.declared.Command.the-variants.{Jump}
 use Rattle.image.specs.Image.{rightLength, slots, slotsGood, slotGood, slotText}
 use Rattle.image.proofs.HeldLaws.{text-fits}
 use Rattle.frames.specs.Addresses.{isUnit}
-use Rattle.frames.specs.Receive.{bodyIn}
 use Rattle.flow.specs.Flow.{begun}
 use Rattle.motor.specs.Motion.{reported}
 use Rattle.turns.specs.declared.Core.{Core}
@@ -20,7 +19,7 @@ use Rattle.drive.specs.Unit.{Drive}
 use Rattle.obeying.specs.declared.Obeyed.{Obeyed}
 use Rattle.obeying.specs.Obeying.{loadedAs}
 use Rattle.obeying.specs.Deeds.{Obeys, refuses, tells, stores, clears, stops, resumes, again, loads}
-use Rattle.drive.specs.Calls.{Starting, freshUnit, noUnit, startOf, receivedBy, Turning}
+use Rattle.drive.specs.Calls.{Starting, freshUnit, noUnit, startOf, receivedBy, bodyBy, Turning}
 use Rattle.drive.proofs.FeedLaws.{frame-does}
 use Rattle.runs.specs.Reach.{Call, Feed, Turn, after, textOf}
 use Rattle.runs.proofs.SoundLaws.{text-kept}
@@ -89,7 +88,7 @@ idle-stays sample ms steps t image c h =
 first-after : (u : Drive) (c : Call) → u .core .running ≡ false → AtFirst (after c u .core)
 unfolding turnCore
 first-after u (Feed bytes image buffer) h =
-    feed-cases u bytes image buffer (λ (text : List ℕ) (c : Core). AtFirst c) (stopped-first (u .core) h) (λ d. obeys-first h (frame-does (receivedBy u bytes .frame) (bodyIn (receivedBy u bytes .receiver)) (u .core)))
+    feed-cases u bytes image buffer (λ (text : List ℕ) (c : Core). AtFirst c) (stopped-first (u .core) h) (λ d. obeys-first h (frame-does (receivedBy u bytes .frame) (bodyBy u bytes) (u .core)))
 first-after u (Turn sample ms steps image) h =
     turn-cases u sample ms steps image (λ (r : Turning). AtFirst (r .unit .core)) (λ a. stopped-first (u .core) h)
     (λ m z. absurd (false≢true (sym (idle-stays sample ms steps (textOf u) image (u .core) h) ∙ z)))

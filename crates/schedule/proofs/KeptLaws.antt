@@ -10,7 +10,6 @@ use Rattle.commands.specs.Reading.{readAt}
 use Rattle.motor.specs.declared.Moved.{Moved}
 use Rattle.motor.specs.declared.Moved.the-variants.{Goes, Stops}
 use Rattle.motor.specs.Motion.{reported, served, isFree}
-use Rattle.frames.specs.Receive.{bodyIn}
 use Rattle.turns.specs.declared.Core.{Core}
 use Rattle.turns.specs.declared.Enter.the-variants.{Stay}
 use Rattle.turns.specs.declared.Stepped.{Stepped}
@@ -21,7 +20,7 @@ use Rattle.drive.specs.Unit.{Drive}
 use Rattle.obeying.specs.declared.Obeyed.{Obeyed}
 use Rattle.obeying.specs.Obeying.{textWritten}
 use Rattle.obeying.specs.Deeds.{Obeys, refuses, tells, stores, clears, stops, resumes, again, loads}
-use Rattle.drive.specs.Calls.{receivedBy, Turning}
+use Rattle.drive.specs.Calls.{receivedBy, bodyBy, Turning}
 use Rattle.drive.proofs.FeedLaws.{frame-does}
 use Rattle.keeping.proofs.TurnLaws.{free}
 use Rattle.runs.specs.Reach.{Call, Feed, Turn, after, textOf}
@@ -80,7 +79,7 @@ step-stays sample ms steps t image c h never = go (isFree (c .motor .wait)) refl
 pub kept : (u : Drive) (c : Call) → u .core .running ≡ true → ((d : Command) (s : ℕ) → Takes u d s c → ⊥) → Same (u .text) (u .core) (after c u .text) (after c u .core)
 unfolding turnCore
 kept u (Feed bytes image buffer) h never =
-    feed-cases u bytes image buffer (Same (u .text) (u .core)) (refl, refl) (λ d. obeys-same (u .text) h (frame-does (receivedBy u bytes .frame) (bodyIn (receivedBy u bytes .receiver)) (u .core)))
+    feed-cases u bytes image buffer (Same (u .text) (u .core)) (refl, refl) (λ d. obeys-same (u .text) h (frame-does (receivedBy u bytes .frame) (bodyBy u bytes) (u .core)))
 kept u (Turn sample ms steps image) h never =
     turn-cases u sample ms steps image (λ (r : Turning). Same (u .text) (u .core) (r .unit .text) (r .unit .core)) (λ a. (refl, refl)) made
   where

@@ -11,10 +11,11 @@ use Rattle.parts.specs.Parts.{paddedText}
 use Rattle.parts.proofs.Laws.{cases, length-padded}
 use Rattle.digits.specs.Operand.{widest}
 use Rattle.digits.proofs.Writing.{length-most}
-use Rattle.answers.specs.Packet.{packet, tail, mostData, packetBytes}
+use Rattle.answers.specs.Packet.{mostData, packetBytes}
 use Rattle.image.specs.Image.{slotText}
 use Rattle.frames.specs.declared.Frame.{Frame}
-use Rattle.frames.specs.Receive.{Received, bodyIn}
+use Rattle.frames.specs.declared.Framing.{Framing}
+use Rattle.frames.specs.Receive.{Received}
 use Rattle.motor.specs.declared.Motor.{Motor}
 use Rattle.motor.specs.Motion.{fresh, room, counted, reported, stopped}
 use Rattle.turns.specs.declared.Core.{Core}
@@ -26,10 +27,11 @@ use Rattle.obeying.specs.declared.Tell.{Tell}
 use Rattle.obeying.specs.declared.Obeyed.{Obeyed}
 use Rattle.obeying.specs.Obeying.{stepSize, dataOf, loadedAs, textWritten}
 use Rattle.drive.specs.Unit.{Drive}
+use Rattle.drive.proofs.AnswerLaws.{packet-fits}
 use Rattle.drive.proofs.FeedLaws.{frame-does}
 use Rattle.drive.specs.declared.StartAnswer.{StartAnswer}
 use Rattle.drive.proofs.StartLaws.{started-unit}
-use Rattle.drive.specs.Calls.{startOf, receivedBy, receivedObeyed, textThen, answerTo, turnOf}
+use Rattle.drive.specs.Calls.{startOf, receivedBy, textThen, answerTo, turnOf}
 use Rattle.motor.specs.Deeds.{Goes-on, same, waits, less, places}
 use Rattle.keeping.specs.Deeds.{Sets, Does, goes, ends, Steps, keeps-text, enters-text}
 use Rattle.obeying.specs.Deeds.{Tells, nothingTold, textTold, positionTold, speedTold, sampleTold, stepSizeTold, correctionTold}
@@ -37,7 +39,7 @@ use Rattle.obeying.specs.Deeds.{Obeys, refuses, tells, stores, clears, stops, r
 use Rattle.keeping.specs.Kept.{Kept, CallsKeep}
 use Rattle.keeping.proofs.CallLaws.{calls-keep}
 use Rattle.keeping.proofs.SettingLaws.{speed-fits, correction-fits}
-use Rattle.stream.specs.Steps.{State, Outcome, Quiet, Unanswered, Answer, outcomeOf, answerIn, stepped, received, byteStep, walkOf}
+use Rattle.stream.specs.Steps.{State, Outcome, Quiet, Unanswered, Answer, outcomeOf, bodyIn, obeyedIn, answerIn, stepped, received, byteStep, walkOf}
 use Rattle.stream.specs.Courses.{Event, Byte, Turn, course, afterTurn}
 use Rattle.stream.specs.Fits.{FitsMotor, FitsSettings, FitsCore, Fits}
 use Rattle.stream.proofs.WalkLaws.{walk-is}
@@ -158,13 +160,10 @@ data-fits Tell.Nothing n text f h = omega arith
 data-fits (Tell.Number k) n text f h = omega (arith, length-most 10 k (omega arith) (omega arith))
 data-fits Tell.Text n text f h = simp length-take (omega arith)
 
-answer-fits : (o : Obeyed) (text : List ℕ) → length text ≤ mostData → FitsTell (o .tell)
-    → (1 ≤ length (answerTo o text)) × (length (answerTo o text) ≤ packetBytes)
-unfolding answerTo packet
-answer-fits o text h f =
-    let d = dataOf (o .tell) (o .core .flow .length) text in
-    let n : length d ≤ mostData = data-fits (o .tell) (o .core .flow .length) text f h in
-    (omega arith, omega (arith, length-append d tail))
+answer-fits : (g : Framing) (o : Obeyed) (text : List ℕ) → length text ≤ mostData → FitsTell (o .tell)
+    → (1 ≤ length (answerTo g o text)) × (length (answerTo g o text) ≤ packetBytes)
+unfolding answerTo
+answer-fits g o text h f = packet-fits g _ _ (data-fits (o .tell) (o .core .flow .length) text f h)
 
 -- ---- a byte
 
@@ -176,7 +175,7 @@ FitsOutcome (Answer answer) = (1 ≤ length answer) × (length answer ≤ packet
 
 module _ (s : State) (f : Fits (s .unit)) where
   stepped-fits : (r : Received) → Fits (stepped r s .state .unit)
-  stepped-fits r = obeys-fits (s .unit .text) f (frame-does (r .frame) (bodyIn (r .receiver)) (s .unit .core))
+  stepped-fits r = obeys-fits (s .unit .text) f (frame-does (r .frame) (bodyIn r s) (s .unit .core))
 
   outcome-fits : (r : Received) → FitsOutcome (stepped r s .outcome)
   outcome-fits r = go (r .frame) refl
@@ -184,8 +183,8 @@ module _ (s : State) (f : Fits (s .unit)) where
       go : (k : Frame) → r .frame ≡ k → FitsOutcome (outcomeOf (r .frame) (answerIn r s))
       go Frame.Nothing e = rw e tt
       go Frame.Alone e =
-          let o = receivedObeyed r (s .unit .core) in
-          let a = answer-fits o (textThen r o (s .unit .text)) (stepped-fits r .text) (told-fits (f .core) (frame-does (r .frame) (bodyIn (r .receiver)) (s .unit .core))) in
+          let o = obeyedIn r s in
+          let a = answer-fits (r .framing) o (textThen (bodyIn r s) o (s .unit .text)) (stepped-fits r .text) (told-fits (f .core) (frame-does (r .frame) (bodyIn r s) (s .unit .core))) in
           rw e (rw e at a)
       go Frame.Group e = rw e tt
 

@@ -46,7 +46,8 @@ text HEX : judge a text to be stored
 ramp V L N : tell the ramp of N microsteps
 ramp V L endless : tell the ramp of an endless move
 write SLOT RUN LIST : write a line from a list of commands
-read HEX : read an answer packet
+read HEX : read an answer packet, OEM where it begins with 02
+oem SEQ TEXT : feed an OEM frame for this unit, with its checksum
 count HEX : count the commands of a body's run
 /... : feed a line as it is typed, with a CR
 help : tell the operations";
@@ -135,6 +136,7 @@ impl Bench {
             b"write" => self.write(fields.ok_or(MISSING)?, out),
             b"read" => self.read(only(fields)?, out),
             b"count" => self.count(only(fields)?, out),
+            b"oem" => self.oem(fields.ok_or(MISSING)?, out),
             _ => Err(Unreadable("no such operation")),
         }
     }
@@ -216,12 +218,39 @@ impl Bench {
         self.bytes.extend(line);
         self.bytes.push(b'\r');
         match unit.feed(&self.bytes, &mut self.image, &mut self.buffer[..self.room]) {
-            Ok(fed) => match packet::read(&self.buffer[..fed.answered]) {
+            Ok(fed) => match read_either(&self.buffer[..fed.answered]) {
                 Ok(packet) => tell_packet(packet, out),
                 Err(_) => out.push(b'-'),
             },
             Err(refusal) => say!(out, "{}", feed_refusal(refusal)),
         }
+    }
+
+    /// "SEQ two hex digits, TEXT as typed: an OEM frame for this unit with its
+    /// checksum; answered as a typed line"
+    fn oem(&mut self, fields: &[u8], out: &mut Vec<u8>) -> Answered {
+        let (sequence, text) = cut(fields);
+        let text = text.ok_or(MISSING)?;
+        let [high, low] = sequence else {
+            return Err(Unreadable("not two hex digits"));
+        };
+        let sequence = hex_digit(*high)? << 4 | hex_digit(*low)?;
+        let Some(unit) = &mut self.unit else {
+            return no_unit(out);
+        };
+        self.bytes.clear();
+        self.bytes.extend([0x02, 0x30 + unit.number(), sequence]);
+        self.bytes.extend(text);
+        self.bytes.push(0x03);
+        self.bytes.push(packet::checksum(&self.bytes));
+        match unit.feed(&self.bytes, &mut self.image, &mut self.buffer[..self.room]) {
+            Ok(fed) => match read_either(&self.buffer[..fed.answered]) {
+                Ok(packet) => tell_packet(packet, out),
+                Err(_) => out.push(b'-'),
+            },
+            Err(refusal) => say!(out, "{}", feed_refusal(refusal)),
+        }
+        Ok(())
     }
 
     fn turn(&mut self, fields: &[u8], out: &mut Vec<u8>) -> Answered {
@@ -265,7 +294,12 @@ impl Bench {
         say!(out, " V={} L={} j={} o={}", set.speed, set.slope, 1 << set.resolution, set.offset);
         say!(out, " m={} h={}", set.move_current, set.hold_current);
         say!(out, " f={} F={}", u8::from(set.flag_low), u8::from(set.turned));
-        say!(out, " J={} baud={} sample={} text=", set.outputs, set.baud, unit.sample());
+        say!(out, " J={} baud={} sample={}", set.outputs, set.baud, unit.sample());
+        match unit.last() {
+            Some(number) => say!(out, " last={number}"),
+            None => say!(out, " last=-"),
+        }
+        say!(out, " text=");
         write_hex(unit.text(), out);
     }
 
@@ -296,7 +330,7 @@ impl Bench {
 
     fn read(&mut self, field: &[u8], out: &mut Vec<u8>) -> Answered {
         read_hex(field, &mut self.bytes)?;
-        match packet::read(&self.bytes) {
+        match read_either(&self.bytes) {
             Ok(Packet { status, data }) => {
                 say!(out, "packet {status:02x} ");
                 write_hex(data, out);
@@ -354,6 +388,14 @@ fn turn_refusal(refusal: TurnRefusal) -> &'static str {
         TurnRefusal::ImageLength => "refused image-length",
         TurnRefusal::Sample => "refused sample",
         TurnRefusal::Steps => "refused steps",
+    }
+}
+
+/// "also an OEM answer (begins with 02)"
+fn read_either(slice: &[u8]) -> Result<Packet<'_>, packet::NoPacket> {
+    match slice {
+        [0x02, ..] => packet::read_oem(slice),
+        _ => packet::read(slice),
     }
 }
 

@@ -55,6 +55,38 @@ const ANSWERS: &[&str] = &[
     "typed: busy 0 with data",
     "typed: busy 2",
     "typed: busy 15",
+    "feed: oem idle 0",
+    "feed: oem idle 0 with data",
+    "feed: oem idle 1",
+    "feed: oem idle 1 with data",
+    "feed: oem idle 2",
+    "feed: oem idle 3",
+    "feed: oem idle 7",
+    "feed: oem idle 7 with data",
+    "feed: oem idle 11",
+    "feed: oem idle 11 with data",
+    "feed: oem busy 0",
+    "feed: oem busy 0 with data",
+    "feed: oem busy 2",
+    "feed: oem busy 15",
+    "oem: no unit",
+    "oem: refused buffer",
+    "oem: refused image-length",
+    "oem: -",
+    "oem: idle 0",
+    "oem: idle 0 with data",
+    "oem: idle 1",
+    "oem: idle 1 with data",
+    "oem: idle 2",
+    "oem: idle 3",
+    "oem: idle 7",
+    "oem: idle 7 with data",
+    "oem: idle 11",
+    "oem: idle 11 with data",
+    "oem: busy 0",
+    "oem: busy 0 with data",
+    "oem: busy 2",
+    "oem: busy 15",
     "turn: no unit",
     "turn: refused image-length",
     "turn: refused sample",
@@ -117,7 +149,7 @@ const ANSWERS: &[&str] = &[
 /// The words of the operations; each can be unreadable.
 const WORDS: &[&str] = &[
     "image", "room", "buffer", "start", "feed", "turn", "run", "timeline", "unit", "store", "line", "text",
-    "ramp", "write", "read", "help", "count", "other",
+    "ramp", "write", "read", "oem", "count", "help", "other",
 ];
 
 /// Every kind that [`of_event`] names.
@@ -225,8 +257,8 @@ fn short(word: &str, operation: &str, answer: &str) -> String {
             format!("{} consumed, no answer", if all { "all" } else { "part" })
         }
         ("feed", ["fed", _, packet]) => packet_kind(packet),
-        ("typed", [state @ ("idle" | "busy"), code]) => format!("{state} {code}"),
-        ("typed", [state @ ("idle" | "busy"), code, ..]) => format!("{state} {code} with data"),
+        ("typed" | "oem", [state @ ("idle" | "busy"), code]) => format!("{state} {code}"),
+        ("typed" | "oem", [state @ ("idle" | "busy"), code, ..]) => format!("{state} {code} with data"),
         ("image" | "store", [_, content]) => {
             let good = *content == "4160" || content.len() == 2 * 4160;
             if good { "4160 bytes" } else { "another length" }.to_string()
@@ -263,8 +295,9 @@ fn fed_bytes(operation: &str) -> usize {
 fn packet_kind(hex: &str) -> String {
     let status = hex.get(4..6).and_then(|digits| u8::from_str_radix(digits, 16).ok()).unwrap_or(0);
     let state = if status & 0x20 != 0 { "idle" } else { "busy" };
-    let data = if hex.len() > 12 { " with data" } else { "" };
-    format!("{state} {}{data}", status & 15)
+    let (framing, empty) = if hex.starts_with("02") { ("oem ", 10) } else { ("", 12) };
+    let data = if hex.len() > empty { " with data" } else { "" };
+    format!("{framing}{state} {}{data}", status & 15)
 }
 
 /// What a unit is at.
@@ -375,7 +408,7 @@ pub fn of_event(
         }
     } else if answer.starts_with(b"act ") {
         of_turn(before?, after)
-    } else if operation.starts_with(b"feed") || operation.starts_with(b"/") {
+    } else if operation.starts_with(b"feed") || operation.starts_with(b"/") || operation.starts_with(b"oem") {
         of_frame(before?, after)?.to_string()
     } else {
         return None;

@@ -27,6 +27,22 @@ pub fn write(buffer: &mut [u8], status: u8, data: &[u8]) -> usize {
     head.len() + data.len() + TAIL.len()
 }
 
+/// What stands before the status of an OEM answer.
+const OEM_HEAD: [u8; 2] = [0x02, b'0'];
+
+/// "The answer is 02, `0`, status, data, 03 and its checksum."
+pub fn write_oem(buffer: &mut [u8], status: u8, data: &[u8]) -> usize {
+    let mut packet = [&OEM_HEAD[..], &[status], data, &[0x03]].concat();
+    packet.push(checksum(&packet));
+    buffer[..packet.len()].copy_from_slice(&packet);
+    packet.len()
+}
+
+/// "the exclusive-or of all bytes".
+pub fn checksum(bytes: &[u8]) -> u8 {
+    bytes.iter().fold(0, |sum, byte| sum ^ byte)
+}
+
 /// A packet as the host reads it.
 #[derive(Clone, Copy, Debug, PartialEq, Eq)]
 pub struct Packet<'a> {
@@ -58,6 +74,25 @@ pub fn read(slice: &[u8]) -> Result<Packet<'_>, NoPacket> {
     let [b'/', b'0', status, data @ .., 0x03, b'\r', b'\n'] = slice else {
         return Err(NoPacket);
     };
+    judged(status, data)
+}
+
+/// Reads a slice that is exactly one OEM answer with its checksum, by the same
+/// rule of status and data.
+pub fn read_oem(slice: &[u8]) -> Result<Packet<'_>, NoPacket> {
+    let [summed @ .., sum] = slice else {
+        return Err(NoPacket);
+    };
+    let [0x02, b'0', status, data @ .., 0x03] = summed else {
+        return Err(NoPacket);
+    };
+    if *sum != checksum(summed) {
+        return Err(NoPacket);
+    }
+    judged(status, data)
+}
+
+fn judged<'a>(status: &u8, data: &'a [u8]) -> Result<Packet<'a>, NoPacket> {
     let good_status = status & 0b1101_0000 == 0b0100_0000;
     let good_data = data.len() <= BODY && data.iter().all(|byte| (0x20..=0x7e).contains(byte));
     if !good_status || !good_data {

@@ -2,6 +2,7 @@
 
 use crate::bench::{read_hex_field, write_hex};
 use crate::image::{self, Image};
+use crate::packet::checksum;
 
 /// A script: its operations.
 pub type Script = Vec<Vec<u8>>;
@@ -153,6 +154,7 @@ fn simpler(operation: &[u8]) -> Vec<Vec<u8>> {
         (b"image", [hex]) => simpler_image(hex),
         (b"feed" | b"line" | b"text" | b"read" | b"count", [hex]) => simpler_bytes(word, hex),
         (b"write", [slot, run, list @ ..]) => simpler_list(slot, run, list),
+        (b"oem", [sequence, text @ ..]) => simpler_oem(sequence, &text.join(&b' ')),
         _ => simpler_numbers(word, &fields),
     }
 }
@@ -161,7 +163,37 @@ fn simpler_bytes(word: &[u8], hex: &[u8]) -> Vec<Vec<u8>> {
     let Some(bytes) = read_hex_field(hex) else {
         return Vec::new();
     };
-    shorter_bytes(&bytes).iter().map(|bytes| with_hex(word, bytes)).collect()
+    let mut found = shorter_bytes(&bytes);
+    found.extend(shorter_frames(&bytes));
+    found.iter().map(|bytes| with_hex(word, bytes)).collect()
+}
+
+/// Bytes in which the body of an OEM frame, or the data of an OEM answer, is
+/// shorter and its checksum right again.
+fn shorter_frames(bytes: &[u8]) -> Vec<Vec<u8>> {
+    const HEAD: usize = 3;
+    let mut found = Vec::new();
+    for (place, _) in bytes.iter().enumerate().filter(|&(_, &byte)| byte == 0x02) {
+        let (before, frame) = bytes.split_at(place);
+        let Some(end) = frame.iter().position(|&byte| byte == 0x03).filter(|&end| end >= HEAD) else {
+            continue;
+        };
+        let (frame, rest) = frame.split_at(end + 1);
+        if rest.first() != Some(&checksum(frame)) {
+            continue;
+        }
+        for body in shorter_bytes(&frame[HEAD..end]) {
+            let frame = [&frame[..HEAD], &body, &[0x03]].concat();
+            found.push([before, &frame[..], &[checksum(&frame)], &rest[1..]].concat());
+        }
+    }
+    found
+}
+
+/// The same frame with less of its body.
+fn simpler_oem(sequence: &[u8], text: &[u8]) -> Vec<Vec<u8>> {
+    let written = |text: Vec<u8>| [&b"oem"[..], sequence, &text[..]].join(&b' ');
+    shorter_bytes(text).into_iter().map(written).collect()
 }
 
 fn with_hex(word: &[u8], bytes: &[u8]) -> Vec<u8> {
@@ -257,6 +289,20 @@ mod tests {
         assert_eq!(one("unit\r", "unit"), "unit");
         assert_eq!(one("image aabb", "image"), "image empty");
         assert_eq!(one("ramp 100 200 endless", "endless"), "ramp 0 0 endless");
+        assert_eq!(one("oem 31 A500 R", "5"), "oem 31 5");
+    }
+
+    #[test]
+    fn a_frame_keeps_its_checksum() {
+        let right = |script: &[Vec<u8>]| {
+            let bytes = read_hex_field(script.first()?.strip_prefix(b"feed ")?)?;
+            let [frame @ .., sum] = &bytes[..] else { return None };
+            let oem = matches!(frame, [0x02, b'1', b'1', .., 0x03]);
+            (oem && frame.contains(&b'R') && *sum == checksum(frame)).then_some(0)
+        };
+        let long = with_hex(b"feed", b"/2Q\r\x0211A12345R\x03\x23");
+        let short = with_hex(b"feed", b"\x0211R\x03\x53");
+        assert_eq!(shrink(vec![long], 1000, right), vec![short]);
     }
 
     #[test]

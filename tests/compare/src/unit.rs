@@ -6,7 +6,7 @@ use crate::decimal::Decimal;
 use crate::image::{self, Image};
 use crate::line::{self, Body, Drive, Immediate, Line};
 use crate::packet;
-use crate::receiver::Receiver;
+use crate::receiver::{Framing, Receiver};
 use crate::text::Text;
 use crate::turn::{Loops, Motion, Wait};
 use crate::Code;
@@ -88,6 +88,9 @@ pub struct Unit {
     pub(crate) wait: Wait,
     /// "the last action answered".
     pub(crate) motion: Motion,
+    /// The number "of the last OEM frame for this unit or its groups not
+    /// refused (at start there is none)".
+    last: Option<u8>,
 }
 
 /// "at start: unit number not 1 to 16, then image not 4,160 bytes, then bad
@@ -166,6 +169,7 @@ impl Unit {
             loops: Loops::default(),
             wait: Wait::Nothing,
             motion: Motion::STILL,
+            last: None,
         }
     }
 
@@ -181,15 +185,45 @@ impl Unit {
         let (consumed, frame) = self.receiver.take(bytes);
         let answered = match frame {
             None => 0,
-            Some(reach) => {
-                let outcome = self.obey(image);
+            Some((reach, framing)) => {
+                let outcome = self.heed(framing, image);
                 match reach {
-                    Reach::Alone => self.answer(outcome, answer),
+                    Reach::Alone => self.answer(outcome, framing, answer),
                     Reach::Group => 0,
                 }
             }
         };
         Ok(Fed { consumed, answered })
+    }
+
+    /// Obeys a frame, or answers a repeat; the number of an OEM frame that is
+    /// not refused is kept.
+    fn heed(&mut self, framing: Framing, image: &mut Image) -> Result<Data, Code> {
+        let Framing::Oem { number, repeat } = framing else {
+            return self.obey(image);
+        };
+        if repeat && self.last == Some(number) {
+            return Ok(self.afresh());
+        }
+        let outcome = self.obey(image);
+        if outcome.is_ok() {
+            self.last = Some(number);
+        }
+        outcome
+    }
+
+    /// "is answered as an empty body, or, if a query other than `?9`, by that
+    /// query afresh; it is not obeyed."
+    fn afresh(&self) -> Data {
+        match self.receiver.body() {
+            Some(b"$") => Data::Text,
+            Some(b"?0") => Data::Number(self.position.number),
+            Some(b"?2") => Data::Number(self.settings.speed),
+            Some(b"?4") => Data::Number(self.sample.into()),
+            Some(b"?6") => Data::Number(1 << self.settings.resolution),
+            Some(b"?7") => Data::Number(self.settings.offset.into()),
+            _ => Data::Nothing,
+        }
     }
 
     /// Does what the received body asks for.
@@ -272,17 +306,31 @@ impl Unit {
 
     /// Writes the answer: "A refused frame carries its own code and no data;
     /// all others carry the held code".
-    fn answer(&self, outcome: Result<Data, Code>, answer: &mut [u8]) -> usize {
+    fn answer(&self, outcome: Result<Data, Code>, framing: Framing, answer: &mut [u8]) -> usize {
         let (code, data) = match outcome {
             Ok(data) => (self.code, data),
             Err(code) => (code, Data::Nothing),
         };
         let status = packet::status(!self.running, code);
+        let write = match framing {
+            Framing::Plain => packet::write,
+            Framing::Oem { .. } => packet::write_oem,
+        };
         match data {
-            Data::Nothing => packet::write(answer, status, b""),
-            Data::Number(number) => packet::write(answer, status, Decimal::new(number).bytes()),
-            Data::Text => packet::write(answer, status, self.text.bytes()),
+            Data::Nothing => write(answer, status, b""),
+            Data::Number(number) => write(answer, status, Decimal::new(number).bytes()),
+            Data::Text => write(answer, status, self.text.bytes()),
         }
+    }
+
+    /// The number of the last OEM frame that was not refused.
+    pub fn last(&self) -> Option<u8> {
+        self.last
+    }
+
+    /// The unit's number.
+    pub fn number(&self) -> u8 {
+        self.receiver.unit()
     }
 
     /// Whether a run is on.

@@ -1,5 +1,6 @@
--- `answers::read_packet` meets its contract: what it is told of the inside of the slice, taken apart, is what the host is told.
+-- `answers::read_packet` meets its contract: what stands within the slice is told.
 -- Assumes nothing.
+use mathlib.Core.Path.{ap, _∙_}
 use borrow.Author.Needs.{needs}
 use Rattle.answers.specs.Reading.{toldOf}
 use Rattle.answers.proofs.read_packet.Statement.{statement}
@@ -8,20 +9,11 @@ use Rattle.answers.proofs.read_packet.Tie as tie
 look-inside-requires : tie.Need-look-inside-requires
 look-inside-requires c κs = search needs
 
-enum-known-status : tie.Need-enum-known-status
-enum-known-status c = search needs
-
-enum-told : tie.Need-enum-told
-enum-told c = search needs
+tell-requires : tie.Need-tell-requires
+tell-requires c κs = search needs
 
 returns : tie.Need-returns
-unfolding toldOf
-returns c = rw (← c .before .before .look-inside .ensures, c .enum-told .given .1)
-
-returns-2 : tie.Need-returns-2
-unfolding toldOf
-returns-2 c = rw (← c .before .before .before .look-inside .ensures, c .before .status .given .1)
+returns c = c .tell .ensures ∙ ap toldOf (c .before .look-inside .ensures)
 
 pub read-packet-spec : {M : Type 1} → statement M
-read-packet-spec =
-    tie.close (tie.spec look-inside-requires enum-known-status enum-told returns returns-2)
+read-packet-spec = tie.close (tie.spec look-inside-requires tell-requires returns)

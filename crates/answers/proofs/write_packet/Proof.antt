@@ -6,7 +6,7 @@ use Rattle.answers.proofs.write_packet.Statement.{statement}
 use Rattle.answers.proofs.write_packet.Tie as tie
 
 returns : tie.Need-returns
-returns c = too-long _ _ _ (c .if1 .taken)
+returns c = too-long _ _ _ _ (c .if1 .taken)
 
 add-if2 : tie.Need-add-if2
 add-if2 c = search needs

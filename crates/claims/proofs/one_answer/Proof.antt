@@ -18,6 +18,7 @@ returns c =
       stored = λ image slot text r s x y. stored-once;
       cleared = λ image r s x y. cleared-once;
       packet = λ buffer status bytes r s x y. packet-once;
+      oem-packet = λ buffer status bytes r s x y. packet-once;
       line = λ l count buffer r s x y. line-once;
       heard = λ p body unit bytes r s x y. heard-once;
       started = λ number image body text d e. started-once d e;

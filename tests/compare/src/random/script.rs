@@ -6,7 +6,7 @@ use crate::address::{reach, Reach};
 use crate::bench::{with_hex, Bench, LONGEST_IMAGE};
 use crate::image::{self, IMAGE};
 use crate::kinds::{self, Glance};
-use crate::packet::PACKET;
+use crate::packet::{checksum, PACKET};
 use crate::random::{Lines, Random, Rare};
 use crate::turn::{Leg, Wait};
 use crate::unit::Unit;
@@ -139,6 +139,12 @@ const UNREADABLE: &[&str] = &[
     "read 2",
     "read zz",
     "read 2f 30",
+    "oem",
+    "oem 31",
+    "oem 3 Q",
+    "oem 311 Q",
+    "oem 3g Q",
+    "oem  Q",
 ];
 
 /// One operation and what the model answered.
@@ -421,10 +427,11 @@ impl Round {
         if self.random.chance(12) {
             return typed(address, &body, &mut self.random);
         }
+        if self.random.chance(6) {
+            return self.typed_oem(&body);
+        }
         let mut bytes = self.before_frame();
-        bytes.extend([b'/', address]);
-        bytes.extend(body);
-        bytes.push(b'\r');
+        bytes.extend(self.framed(address, body));
         if self.random.chance(12) {
             bytes.extend(self.another_frame());
         }
@@ -433,6 +440,41 @@ impl Round {
             return self.feed_pending();
         }
         with_hex("feed", &bytes)
+    }
+
+    /// A frame of either framing.
+    fn framed(&mut self, address: u8, body: Vec<u8>) -> Vec<u8> {
+        if self.random.chance(70) {
+            return [&[b'/', address], &body[..], b"\r"].concat();
+        }
+        let sequence = self.sequence();
+        let mut frame = [&[0x02, address, sequence], &body[..], &[0x03]].concat();
+        let sum = checksum(&frame);
+        frame.push(match self.random.below(20) {
+            0 => self.random.pick(b"/\x02\x03\r"),
+            1 => sum ^ 1 << self.random.below(8),
+            _ => sum,
+        });
+        frame
+    }
+
+    /// Often a repeat of the last number, at times no sequence byte at all.
+    fn sequence(&mut self) -> u8 {
+        let last = self.bench.unit().and_then(Unit::last).unwrap_or(1);
+        match self.random.below(20) {
+            0 => self.random.pick(&[0x2f, 0x40, 0x02, 0x03, b'\r', 0xb1]),
+            1 => self.random.bits() as u8,
+            2..=9 => 0x38 + last,
+            10..=11 => 0x30 + last,
+            _ => 0x30 + self.random.below(16) as u8,
+        }
+    }
+
+    fn typed_oem(&mut self, body: &[u8]) -> Vec<u8> {
+        let sequence = self.sequence();
+        let mut operation = format!("oem {sequence:02x} ").into_bytes();
+        operation.extend(body.iter().filter(|&&byte| byte != b'\n'));
+        operation
     }
 
     /// Mostly the unit's own address, at times a group of it, or any.
@@ -501,10 +543,8 @@ impl Round {
     fn another_frame(&mut self) -> Vec<u8> {
         let address =
             if self.random.chance(50) { 0x30 + self.random.below(17) as u8 } else { self.address() };
-        let mut frame = vec![b'/', address];
-        frame.extend(self.frame_body());
-        frame.push(b'\r');
-        frame
+        let body = self.frame_body();
+        self.framed(address, body)
     }
 
     /// Feeds a part of the bytes that wait, or all.
@@ -606,9 +646,16 @@ impl Round {
             4 => self.random.pick(&[255, 256, 257, 300]),
             _ => self.random.under(12),
         };
-        let mut bytes = vec![b'/', b'0', status];
+        let oem = self.random.chance(40);
+        let mut bytes = vec![if oem { 0x02 } else { b'/' }, b'0', status];
         bytes.extend((0..length).map(|_| 0x20 + self.random.below(0x5f) as u8));
-        bytes.extend([0x03, b'\r', b'\n']);
+        bytes.push(0x03);
+        if oem {
+            let flipped = if self.random.chance(10) { 1 << self.random.below(8) } else { 0 };
+            bytes.push(checksum(&bytes) ^ flipped);
+        } else {
+            bytes.extend(b"\r\n");
+        }
         match self.random.below(10) {
             0 | 1 => bytes = self.lines().damage(bytes),
             2 => {

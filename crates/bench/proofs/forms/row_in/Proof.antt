@@ -10,7 +10,7 @@ abbrev Inv-loop : tie.InvT-loop
 Inv-loop table word at₀ number₀ at number = at ≤ length table
 
 abbrev μ-loop : tie.MeasureT-loop
-μ-loop table word at₀ number₀ at number = 20 - number
+μ-loop table word at₀ number₀ at number = 21 - number
 
 loop-holds : tie.Need-loop-holds Inv-loop μ-loop
 loop-holds c = search needs

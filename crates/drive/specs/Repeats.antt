@@ -1,0 +1,67 @@
+-- OEM frames: their numbers, and which body a repeat obeys. 02, E1.
+-- Assumes nothing.
+use Prim.Native.Nat.{ℕ, _%_}
+use mathlib.Core.List.{List, []}
+use mathlib.Core.Bool.{Bool, true, false, cond, not, _&&_, _||_}
+use lib.Dec.{leb, eqb}
+use Rattle.lines.specs.declared.Immediate.{Immediate}
+use Rattle.lines.specs.declared.Immediate.the-variants.{Terminate, Status, CurrentText, Position, Speed, Sample, StepSize, Correction, Clear}
+use Rattle.lines.specs.declared.Body.{Body}
+use Rattle.lines.specs.Bodies.{bodyOf}
+use Rattle.frames.specs.declared.Frame.{Frame}
+use Rattle.frames.specs.declared.Framing.{Framing}
+use Rattle.drive.specs.declared.Last.{Last}
+
+-- "a number in its low three bits, with bit 3 for a repeat"
+abbrev pub numberIn : ℕ → ℕ
+numberIn q = q % 8
+
+abbrev pub repeats : ℕ → Bool
+repeats q = leb 8 (q % 16)
+
+-- "A repeat with the number of the last OEM frame .. (at start there is none)"
+abbrev pub isRepeat : Last → Framing → Bool
+isRepeat last Framing.Plain = false
+isRepeat Last.Never (Framing.Oem q) = false
+isRepeat (Last.Number n) (Framing.Oem q) = repeats q && eqb (numberIn q) n
+
+-- "a query other than `?9`": `Q`, `$`, `?0 ?2 ?4 ?6 ?7`
+abbrev pub asks : Immediate → Bool
+asks Terminate = false
+asks Status = true
+asks CurrentText = true
+asks Position = true
+asks Speed = true
+asks Sample = true
+asks StepSize = true
+asks Correction = true
+asks Clear = false
+
+abbrev pub kindAsks : Body → Bool
+kindAsks (Body.Refused f) = false
+kindAsks Body.Empty = false
+kindAsks (Body.Immediate i) = asks i
+kindAsks Body.Run = false
+kindAsks Body.Again = false
+kindAsks Body.Line = false
+
+unfoldable pub isQuery : List ℕ → Bool
+isQuery body = kindAsks (bodyOf body)
+
+-- "is answered as an empty body, or, if a query other than `?9`, by that query afresh; it is not obeyed"
+unfoldable pub chosen : Last → Framing → List ℕ → List ℕ
+chosen last g body = cond (isRepeat last g) (cond (isQuery body) body []) body
+
+-- "refused" with 2, 3 or 15
+abbrev pub isRefusal : ℕ → Bool
+isRefusal code = eqb code 2 || eqb code 3 || eqb code 15
+
+-- "the last OEM frame for this unit or its groups not refused": its number; a plain one leaves it
+abbrev pub numberedBy : Framing → ℕ → Last → Last
+numberedBy Framing.Plain code last = last
+numberedBy (Framing.Oem q) code last = cond (isRefusal code) last (Last.Number (numberIn q))
+
+abbrev pub lastAfter : Frame → Framing → ℕ → Last → Last
+lastAfter Frame.Nothing g code last = last
+lastAfter Frame.Alone g code last = numberedBy g code last
+lastAfter Frame.Group g code last = numberedBy g code last
