@@ -52,6 +52,10 @@ extern "C" {
 /* The body of a frame, without its address and its CR: DT_LINE_.. */
 uint32_t dt_check_line(const uint8_t *body, uint64_t length);
 
+/* Where the fault of such a body is, counting its bytes from 1: 1 to its length plus 1 (a missing `R`), so at most 257.
+ * 0 where there is none: the body is taken, or it has over 256 bytes. */
+uint32_t dt_line_place(const uint8_t *body, uint64_t length);
+
 /* The text of a program, without `s`, slot and `R`: DT_TEXT_.. */
 uint32_t dt_check_text(const uint8_t *text, uint64_t length);
 

@@ -1,13 +1,13 @@
 -- The outcomes of start, feed and turn: the definitions make their tests in the order of 01's table.
 -- Assumes nothing.
-use Prim.Native.Nat.{ℕ, _≤_, _<_}
+use Prim.Native.Nat.{ℕ, zero, suc, _≤_, _<_}
 use mathlib.Core.Path.{_≡_, refl, _∙_}
 use mathlib.Core.List.{List, [], _++_}
 use mathlib.Core.Bool.{Bool, true, false, cond}
 use native.Mathlib.Omega.{arith}
 use lib.ListN.{length, drop}
 use lib.Dec.{ltb}
-use borrow.Author.Tests.{lt-ltb, le-ltb}
+use borrow.Author.Tests.{lt-ltb, le-ltb, ne-eqb}
 use Rattle.parts.specs.Parts.{putIn}
 use Rattle.parts.proofs.Laws.{cases, put-front, put-in-room}
 use Rattle.image.specs.Calls.{checkedOf}
@@ -15,6 +15,7 @@ use Rattle.image.specs.Image.{rightLength, slots, slotsGood}
 use Rattle.frames.specs.declared.Frame.{Frame}
 use Rattle.answers.specs.Packet.{packet, packetBytes}
 use Rattle.answers.proofs.Writing.{length-packet}
+use Rattle.obeying.specs.Obeying.{placeTold, dataOf}
 use Rattle.drive.specs.Unit.{Drive}
 use Rattle.drive.specs.declared.StartAnswer.{StartAnswer}
 use Rattle.drive.specs.declared.FeedAnswer.{FeedAnswer}
@@ -25,7 +26,7 @@ use Rattle.drive.specs.Names.{startName, feedName, turnName}
 use Rattle.frames.specs.Receive.{bodyIn}
 use Rattle.drive.specs.Calls.{noUnit, freshUnit, Starting, starting, startOf, receivedBy, obeyedBy, answerTo, feedRefused, feedTaken, feedOf, mostSample, turnRefused, turnTaken, turnOf}
 use Rattle.drive.proofs.FeedLaws.{put-nothing}
-use Rattle.claims.specs.Demand1.{StartRow, ImageRow, FrameRefused, frameCode, refusalPacket, FeedRow, TurnRow}
+use Rattle.claims.specs.Demand1.{StartRow, ImageRow, FrameRefused, frameFault, frameCode, placeData, refusalPacket, FeedRow, TurnRow}
 use Rattle.claims.proofs.OrderLaws.{order-row}
 
 pub start-row : (number : ℕ) (image body text : List ℕ) → StartRow number image body text
@@ -75,11 +76,16 @@ turn-row u sample ms steps image = record {
     go true false false = refl
     go false b d = refl
 
--- a packet without data at the front of a buffer of 262 bytes
-front : (status : ℕ) (buffer : List ℕ) → packetBytes ≤ length buffer
-    → putIn buffer 0 (packet status []) ≡ packet status [] ++ drop (length (packet status [])) buffer
-front status buffer l =
-    put-in-room buffer 0 (packet status []) (omega (arith, length-packet status [])) ∙ put-front buffer (packet status [])
+-- a packet of at most three digits at the front of a buffer of 262 bytes
+front : (status : ℕ) (bytes buffer : List ℕ) → length bytes ≤ 3 → packetBytes ≤ length buffer
+    → putIn buffer 0 (packet status bytes) ≡ packet status bytes ++ drop (length (packet status bytes)) buffer
+front status bytes buffer h l =
+    put-in-room buffer 0 (packet status bytes) (omega (arith, length-packet status bytes)) ∙ put-front buffer (packet status bytes)
+
+-- a place as it is told
+told-place : (p n : ℕ) (text : List ℕ) → dataOf (placeTold p) n text ≡ placeData p
+told-place zero n text = refl
+told-place (suc p) n text = rw (ne-eqb (suc p) 0 (λ e. omega arith))
 
 module _ (u : Drive) (bytes image buffer : List ℕ) where
   buffer-short : length buffer < packetBytes → feedOf u bytes image buffer ≡ feedRefused FeedAnswer.BufferShort u image buffer
@@ -92,11 +98,11 @@ module _ (u : Drive) (bytes image buffer : List ℕ) where
 
   module _ (l : packetBytes ≤ length buffer) (w : rightLength image ≡ true) where
     frame-refused : receivedBy u bytes .frame ≡ Frame.Alone → (frameCode u bytes ≡ 0 → ⊥)
-        → FrameRefused u bytes image buffer (refusalPacket u (frameCode u bytes))
+        → FrameRefused u bytes image buffer (refusalPacket u (frameFault u bytes))
     unfolding feedOf answerTo
     frame-refused f n =
         let h = order-row (bodyIn (receivedBy u bytes .receiver)) (u .core) in
-        rw (le-ltb (length buffer) packetBytes l, w, f, h .refused n, front _ buffer l)
+        rw (le-ltb (length buffer) packetBytes l, w, f, h .refused n, told-place _ _ _, front _ _ buffer (h .three-digits) l)
 
     group-refused : receivedBy u bytes .frame ≡ Frame.Group → (frameCode u bytes ≡ 0 → ⊥) → FrameRefused u bytes image buffer []
     unfolding feedOf

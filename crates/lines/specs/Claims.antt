@@ -100,8 +100,9 @@ pub record LineClaims : Type 0 where
   pub no-place-stored : (run : Bool) (long : ℕ) (cs : List Placed) → (storedPlaces run long cs ≡ []) ↔ ((storable (unplaced cs) && run) ≡ true)
   -- "the leftmost of"
   pub the-leftmost : (p : ℕ) (ps : List ℕ) → oneOf (p ∷ ps) 0 ≡ false → Leftmost (p ∷ ps) (leftmost (p ∷ ps))
-  -- "counting body bytes from 1": what is refused, but for its length, has a place; "an overlong body has no place"
+  -- "counting body bytes from 1": what is refused, but for its length, has a place, and what is taken none; "an overlong body has no place"
   pub place-there : (b : List ℕ) → length b ≤ mostBytes → (lineCode b ≡ 0 → ⊥) → PlacedIn (length b) (lineFault b)
+  pub place-none : (b : List ℕ) → lineCode b ≡ 0 → lineFault b .place ≡ 0
   pub place-most : (b : List ℕ) → lineFault b .place ≤ mostBytes + 1
   pub over-long : (b : List ℕ) → mostBytes < length b → lineFault b ≡ fault 2 0
   -- a refused line has one of three reasons; what stands before a fault of the reading is good up to structure

@@ -16,7 +16,7 @@ use Rattle.lines.proofs.LoopLaws.{lawful, at-most-four, enclosed-by}
 use Rattle.lines.proofs.CodeLaws.{codes}
 use Rattle.lines.proofs.ListLaws.{list-law, list-back, written-spells, spelled-taken}
 use Rattle.lines.proofs.TakenLaws.{stored, text-checked, held, one-or-more}
-use Rattle.lines.proofs.FaultLaws.{leftmost-is, place-there, place-most, over-long}
+use Rattle.lines.proofs.FaultLaws.{leftmost-is, place-there, place-none, place-most, over-long}
 use Rattle.lines.proofs.BeforeLaws.{because}
 use Rattle.lines.proofs.SpellLaws.{taken-spelled, reads-spelled}
 use Rattle.lines.proofs.line_claims.Statement.{statement}
@@ -44,6 +44,7 @@ returns c = record {
   no-place-stored = λ run long cs. (λ e. sym (stored-none run long cs) ∙ none-nil _ e, λ e. nil-none _ (stored-none run long cs ∙ e));
   the-leftmost = leftmost-is;
   place-there = place-there;
+  place-none = place-none;
   place-most = place-most;
   over-long = over-long;
   because = because;
