@@ -161,10 +161,13 @@ record Placed (n : ℕ) (f : Fault) : Type 0 where
 line-placed : (b : List ℕ) → length b ≤ mostBytes → Placed (length b) (lineFault b)
 unfolding lineCode table.oneOf each
 line-placed b m = record {
-  inside = λ e. place-there b m (λ z. let k : table.oneOf (2 ∷ 3 ∷ []) 0 ≡ true = rw (← z) e in let w : _≡_ {A = ℕ} 0 1 = cc in omega arith);
+  inside = λ e. place-there b m (λ z. some-code (lineCode b) e z);
   nowhere = λ e. place-none b (no-code (lineCode b) (codes b) e);
 }
   where
+    some-code : (k : ℕ) → table.oneOf (2 ∷ 3 ∷ []) k ≡ true → k ≡ 0 → ⊥
+    some-code k h e = let y = rw e at h in let w : _≡_ {A = ℕ} 0 1 = cc in omega arith
+
     no-code : (k : ℕ) → table.oneOf (0 ∷ 2 ∷ 3 ∷ []) k ≡ true → table.oneOf (2 ∷ 3 ∷ []) k ≡ false → k ≡ 0
     no-code k h e = eqb-true k 0 (left (eqb k 0) (rw e at h))
       where
