@@ -12,8 +12,10 @@ static void line(const char *body)
     if (n > UINT16_MAX) n = UINT16_MAX;
     int runs = n > 1 && body[0] != 's' && body[0] != 'T' && body[n - 1] == 'R';
     uint8_t status = status_of_line((const uint8_t *)body, (uint16_t)n, runs);
+    uint32_t place = dt_line_place((const uint8_t *)body, n);
     uint64_t commands;
     printf("%-14s status %02X, %s", body, status, told[status & 15]);
+    if (place != 0) printf(", at byte %lu", (unsigned long)place);
     if (commands_of_line((const uint8_t *)body, (uint16_t)n, &commands)) printf(", commands of a run: %" PRIu64, commands);
     printf("\n");
 }

@@ -59,6 +59,10 @@ extern "C" {
 /* The body of a frame, without its address and its CR: DT_LINE_.. */
 uint32_t dt_check_line(const uint8_t *body, uint64_t length);
 
+/* Where the fault of such a body is, counting its bytes from 1: 1 to its length plus 1 (a missing `R`), so at most 257.
+ * 0 where there is none: the body is taken, or it has over 256 bytes. */
+uint32_t dt_line_place(const uint8_t *body, uint64_t length);
+
 /* The same body: how many commands a run of its text takes when nothing stops it, or a DT_COUNT_.. An `s` line counts the text
  * that it stores; a body without a text gives 0. */
 uint64_t dt_count(const uint8_t *body, uint64_t length);

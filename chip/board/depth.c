@@ -33,6 +33,7 @@ static void lines(void)
         uint64_t n = strlen(bodies[i]);
         DEPTH(dt_check_line(body, n));
         DEPTH(dt_count(body, n));
+        DEPTH(dt_line_place(body, n));
         DEPTH(dt_check_text(body, n));
         if (n > 0) DEPTH(dt_check_text(body, n - 1));
     }

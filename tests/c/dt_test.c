@@ -52,6 +52,26 @@ static void lines(void)
     same("an empty slice", dt_check_line(NULL, 0), DT_LINE_TAKEN);
 }
 
+static uint32_t place(const char *body) { return dt_line_place((const uint8_t *)body, strlen(body)); }
+
+/* Where the fault is: in the reading, in the structure, the leftmost of two, and none. */
+static void places(void)
+{
+    static const struct { const char *body; uint32_t place; } rows[] = {
+        {"", 0}, {"R", 0}, {"?0", 0}, {"A1R", 0}, {"s3A1R", 0}, {"?1", 1}, {"T5", 1}, {"y", 1}, {"g5R", 2}, {"A1L0R", 3}, {"A1RA2", 3}, {"A1s2R", 3},
+        {"s16R", 1}, {"sR", 1}, {"s12A1x", 6}, {"A1G1R", 3}, {"gggggG1G1G1G1G1R", 5}, {"A1gA2", 3}, {"A1S02", 3}, {"S02gG1R", 1},
+        {"s1A1A1A1A1A1A1A1A1A1A1A1A1A1A1A1R", 31}, {"s3A1", 5}, {"s3", 3},
+        {"gggggGGGGR", 1}, {"ggA1S02G1R", 1}, {"G1gP1R", 1}, {"s1A1A1A1A1A1A1A1A1A1A1A1A1A1A1A1", 31}, {"G1L0R", 3}, {"s12gA5", 4},
+    };
+    uint8_t body[300];
+    for (size_t i = 0; i < sizeof rows / sizeof rows[0]; i++) same(rows[i].body, place(rows[i].body), rows[i].place);
+    memset(body, '0', sizeof body);
+    body[0] = 's';
+    same("256 bytes without R", dt_line_place(body, 256), 257);
+    same("257 bytes, no place", dt_line_place(body, 257), 0);
+    same("an empty slice", dt_line_place(NULL, 0), 0);
+}
+
 /* Numbers of 64 bits, which a double would round. */
 static void counts(void)
 {
@@ -149,6 +169,7 @@ static void ramps(void)
 int main(void)
 {
     lines();
+    places();
     counts();
     texts();
     images();

@@ -6,6 +6,7 @@
  * A call is a letter and its operands, numbers of 32 bits:
  *
  *     L, T, I           length, bytes      the check of a line, a text, an image
+ *     P                 length, bytes      the place of a line's fault
  *     N                 length, bytes      the number of commands of a line
  *     c, p, d, s, a, t  v, l, endless, n   of a ramp: check, peak, distance, speed, acceleration, time
  *
@@ -65,7 +66,7 @@ static void read_call(struct call *call, int letter)
 {
     memset(call, 0, sizeof *call);
     call->letter = letter;
-    if (strchr("LTIN", letter)) {
+    if (strchr("LPTIN", letter)) {
         read_slice(call);
     } else {
         call->v = read_number();
@@ -79,7 +80,7 @@ static void read_calls(void)
 {
     size_t room = 0;
     for (int letter = getchar(); letter != EOF; letter = getchar()) {
-        if (letter == 0 || !strchr("LTINcpdsat", letter)) fail("an unknown letter");
+        if (letter == 0 || !strchr("LPTINcpdsat", letter)) fail("an unknown letter");
         if (count == room) {
             room = 2 * room + 1;
             calls = found(realloc(calls, room * sizeof *calls));
@@ -99,6 +100,7 @@ static uint64_t answer(const struct call *c, const uint8_t *bytes)
 {
     switch (c->letter) {
     case 'L': return dt_check_line(bytes, c->length);
+    case 'P': return dt_line_place(bytes, c->length);
     case 'T': return dt_check_text(bytes, c->length);
     case 'I': return dt_check_image(bytes, c->length);
     case 'N': return dt_count(bytes, c->length);

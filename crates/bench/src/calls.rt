@@ -6,6 +6,7 @@ use crate::state;
 use crate::telling;
 use answers::Found;
 use answers::Packet;
+use commands::Fault;
 use forecast::Counted;
 use host::LineWritten;
 use lines::Slot;
@@ -22,16 +23,20 @@ pub(crate) fn judge(as_what: Judge, line: &[u8], at: usize, out: &mut [u8]) -> u
 // What the library says of bytes.
 fn judge_bytes(as_what: Judge, bytes: &[u8], out: &mut [u8]) -> usize {
     match as_what {
-        Judge::Line => tell_code(lines::check_line(bytes), out),
+        Judge::Line => tell_fault(lines::check_line(bytes), b"line ", out),
         Judge::Text => tell_text(lines::check_text(bytes), out),
         Judge::Packet => tell_packet(bytes, out),
         Judge::Count => tell_count(forecast::count(bytes), out),
     }
 }
 
-// The code of a body.
-fn tell_code(code: u8, out: &mut [u8]) -> usize {
-    telling::add_number(out, 0, b"line ", code as u64)
+// The code of a body behind a word, and the place of its fault where it has one.
+fn tell_fault(fault: Fault, word: &[u8], out: &mut [u8]) -> usize {
+    let at = telling::add_number(out, 0, word, fault.code as u64);
+    if fault.place == 0 {
+        return at;
+    }
+    telling::add_number(out, at, b" ", fault.place as u64)
 }
 
 // Whether a text may be stored.
@@ -58,7 +63,7 @@ fn tell_packet(bytes: &[u8], out: &mut [u8]) -> usize {
 fn tell_count(counted: Counted, out: &mut [u8]) -> usize {
     match counted {
         Counted::Commands(n) => telling::add_number(out, 0, b"count ", n),
-        Counted::Refused(f) => telling::add_number(out, 0, b"refused ", f.code as u64),
+        Counted::Refused(f) => tell_fault(f, b"refused ", out),
         Counted::Letter => telling::add(out, 0, b"refused letter"),
         Counted::TooMany => telling::add(out, 0, b"refused count"),
     }
@@ -137,7 +142,7 @@ fn tell_written(written: LineWritten, buffer: &[u8], out: &mut [u8]) -> usize {
             let count = fields::up_to(n, buffer);
             telling::add_bytes(out, 0, b"wrote ", &buffer[0..count])
         }
-        LineWritten::Refused(code) => telling::add_number(out, 0, b"refused ", code as u64),
+        LineWritten::Refused(f) => tell_fault(f, b"refused ", out),
         LineWritten::NoRoom => telling::add(out, 0, b"refused buffer"),
     }
 }

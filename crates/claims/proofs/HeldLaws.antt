@@ -41,7 +41,7 @@ Held c = oneOf causeCodes (c .code) ≡ true
 -- an idle unit that stays idle keeps its code
 obeys-code : {body : List ℕ} {c : Core} {o : Obeyed} → c .running ≡ false → Obeys body c o → o .core .running ≡ false → o .core .code ≡ c .code
 unfolding started loadedAs
-obeys-code h (refuses k l) z = refl
+obeys-code h (refuses f l p) z = refl
 obeys-code h (tells t l) z = refl
 obeys-code h (stores slot at n i l) z = refl
 obeys-code h clears z = refl

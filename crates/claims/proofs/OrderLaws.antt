@@ -1,13 +1,19 @@
 -- "Order of checks for a frame": what is obeyed has its tests in this order, and each kind of body has its code.
 -- Assumes nothing.
-use Prim.Native.Nat.{ℕ, _≤_}
-use mathlib.Core.Path.{_≡_, refl}
+use Prim.Native.Nat.{ℕ, zero, suc, _+_, _≤_, _<_}
+use mathlib.Core.Path.{_≡_, refl, ap}
 use mathlib.Core.List.{List, [], _∷_}
 use mathlib.Core.Bool.{Bool, true, false, cond, not, _&&_, _||_, and-false}
+use native.Mathlib.Omega.{arith}
+use native.Mathlib.Decide.{decLt}
 use lib.ListN.{length}
 use lib.Dec.{ltb, eqb}
-use borrow.Author.Tests.{ltb-true, ltb-false, le-ltb, eqb-false, not-true}
+use borrow.Author.Tests.{ltb-true, ltb-false, lt-ltb, le-ltb, eqb-true, eqb-false, ne-eqb, not-true}
 use Rattle.parts.specs.Parts.{same}
+use Rattle.parts.proofs.Laws.{cases}
+use Rattle.digits.proofs.Writing.{length-most}
+use Rattle.commands.specs.declared.Fault.{Fault}
+use Rattle.commands.specs.Reading.{fault}
 use Rattle.commands.specs.Table as table
 use Rattle.commands.proofs.TableLaws.{each, each-one}
 use Rattle.lines.specs.declared.Immediate.{Immediate}
@@ -16,8 +22,10 @@ use Rattle.lines.specs.declared.Body.{Body}
 use Rattle.lines.specs.declared.Taken.{Taken}
 use Rattle.lines.specs.Examples.{bytes}
 use Rattle.lines.specs.Texts.{mostBytes}
-use Rattle.lines.specs.Bodies.{immediates, immediateIn, beginsImmediate, otherOf, bodyOf, lineOf, takenCode, bodyCode, lineCode}
-use Rattle.lines.proofs.CodeLaws.{TakenCode, taken-code}
+use Rattle.lines.specs.Bodies.{immediates, immediateIn, beginsImmediate, otherOf, bodyOf, lineOf, noFault, takenFault, bodyFault, lineFault, lineCode}
+use Rattle.lines.specs.Claims.{PlacedIn}
+use Rattle.lines.proofs.CodeLaws.{TakenCode, taken-code, codes}
+use Rattle.lines.proofs.FaultLaws.{place-there, place-none, place-most}
 use Rattle.motor.specs.Motion.{waitsInput}
 use Rattle.turns.specs.declared.Core.{Core}
 use Rattle.obeying.specs.declared.Tell.{Tell}
@@ -25,34 +33,35 @@ use Rattle.obeying.specs.declared.Write.{Write}
 use Rattle.obeying.specs.declared.Obeyed.{Obeyed}
 use Rattle.obeying.specs.Obeying as obeying
 use Rattle.obeying.proofs.DeedLaws.{too-long}
-use Rattle.claims.specs.Order.{immediate, resuming, codeInOrder}
-use Rattle.claims.specs.Demand1.{OrderRow}
+use Rattle.claims.specs.Order.{immediate, resuming, faultInOrder}
+use Rattle.claims.specs.Demand1.{placeData, OrderRow}
 use Rattle.claims.proofs.ImmediateLaws.{by-immediate, only-empty}
 
--- a row of the order, for any code and obeying
-record Right (c : Core) (code : ℕ) (o : Obeyed) : Type 0 where
-  codes : table.oneOf (0 ∷ 2 ∷ 3 ∷ 15 ∷ []) code ≡ true
-  refused : (code ≡ 0 → ⊥) → o ≡ obeying.refused code c
-  held : code ≡ 0 → o .code ≡ o .core .code
+-- a row of the order, for any fault and obeying
+record Right (c : Core) (f : Fault) (o : Obeyed) : Type 0 where
+  codes : table.oneOf (0 ∷ 2 ∷ 3 ∷ 15 ∷ []) (f .code) ≡ true
+  refused : (f .code ≡ 0 → ⊥) → o ≡ obeying.refusedAt f c
+  held : f .code ≡ 0 → o .code ≡ o .core .code
 
--- the code of a body that is no longer than 256 bytes: by what it begins with, whether it is immediate or resuming, and its kind
-abbrev codeFor : (begins immediate running resuming : Bool) → ℕ → ℕ
-codeFor begins immediate running resuming code = cond (begins && not immediate) 2 (cond (running && not (immediate || resuming)) 15 code)
+-- the fault of a body that is no longer than 256 bytes: by what it begins with, whether it is immediate or resuming, and its kind
+abbrev faultFor : (begins immediate running resuming : Bool) → Fault → Fault
+faultFor begins immediate running resuming f =
+    cond (begins && not immediate) (fault 2 1) (cond (running && not (immediate || resuming)) (fault 15 0) f)
 
 module _ (c : Core) where
   -- a refusal with a code of 01: nothing is changed
-  refuses : (code : ℕ) → table.oneOf (2 ∷ 3 ∷ 15 ∷ []) code ≡ true → Right c code (obeying.refused code c)
+  refuses : (f : Fault) → table.oneOf (2 ∷ 3 ∷ 15 ∷ []) (f .code) ≡ true → Right c f (obeying.refusedAt f c)
   unfolding table.oneOf each
-  refuses code e =
-      let some : not (eqb code 0) ≡ true = each-one (λ n. not (eqb n 0)) (2 ∷ 3 ∷ 15 ∷ []) code refl e in
+  refuses f e =
+      let some : not (eqb (f .code) 0) ≡ true = each-one (λ n. not (eqb n 0)) (2 ∷ 3 ∷ 15 ∷ []) (f .code) refl e in
       record {
-        codes = each-one (table.oneOf (0 ∷ 2 ∷ 3 ∷ 15 ∷ [])) (2 ∷ 3 ∷ 15 ∷ []) code refl e;
+        codes = each-one (table.oneOf (0 ∷ 2 ∷ 3 ∷ 15 ∷ [])) (2 ∷ 3 ∷ 15 ∷ []) (f .code) refl e;
         refused = λ n. refl;
-        held = λ z. absurd (eqb-false code 0 (not-true _ some) z);
+        held = λ z. absurd (eqb-false (f .code) 0 (not-true _ some) z);
       }
 
   -- whatever carries the held code
-  obeys : (tell : Tell) (write : Write) (d : Core) → Right c 0 (obeying.obeyed d (d .code) tell write)
+  obeys : (tell : Tell) (write : Write) (d : Core) → Right c noFault (obeying.obeyed d (d .code) tell write)
   unfolding table.oneOf
   obeys tell write d = record {
     codes = refl;
@@ -61,12 +70,12 @@ module _ (c : Core) where
   }
 
   -- "running .. (15)"
-  busy : Right c 15 (obeying.refused obeying.busy c)
+  busy : Right c (fault 15 0) (obeying.refused obeying.busy c)
   unfolding table.oneOf
-  busy = refuses 15 refl
+  busy = refuses (fault 15 0) refl
 
   -- each kind of body
-  immediate-right : (i : Immediate) → Right c 0 (obeying.immediateObeyed i c)
+  immediate-right : (i : Immediate) → Right c noFault (obeying.immediateObeyed i c)
   immediate-right Terminate = obeys Tell.Nothing Write.Nothing (obeying.terminated c)
   immediate-right Status = obeys Tell.Nothing Write.Nothing c
   immediate-right CurrentText = obeys Tell.Text Write.Nothing c
@@ -77,27 +86,27 @@ module _ (c : Core) where
   immediate-right Correction = obeys (Tell.Number _) Write.Nothing c
   immediate-right Clear = obeys Tell.Nothing Write.Clear c
 
-  line-right : (t : Taken) → TakenCode t → Right c (takenCode t) (obeying.lineObeyed t c)
+  line-right : (t : Taken) → TakenCode t → Right c (takenFault t) (obeying.lineObeyed t c)
   unfolding table.oneOf each
-  line-right (Taken.Refused f) e = refuses (f .code) (each-one (table.oneOf (2 ∷ 3 ∷ 15 ∷ [])) (2 ∷ 3 ∷ []) (f .code) refl e)
+  line-right (Taken.Refused f) e = refuses f (each-one (table.oneOf (2 ∷ 3 ∷ 15 ∷ [])) (2 ∷ 3 ∷ []) (f .code) refl e)
   line-right (Taken.Line n run) e = obeys Tell.Nothing (Write.Text n) _
   line-right (Taken.Store slot at n) e = obeys Tell.Nothing (Write.Store slot at n) c
 
   -- a line, then `R` and `X` alone: while running and when idle
-  line-or-busy : (running : Bool) {code : ℕ} {o : Obeyed} → Right c code o
-      → Right c (codeFor false false running false code) (cond running (obeying.refused obeying.busy c) o)
+  line-or-busy : (running : Bool) {f : Fault} {o : Obeyed} → Right c f o
+      → Right c (faultFor false false running false f) (cond running (obeying.refused obeying.busy c) o)
   line-or-busy true h = busy
   line-or-busy false h = h
 
   run-right : (running waits : Bool) (d e : Core)
-      → Right c (codeFor false false running waits 0)
+      → Right c (faultFor false false running waits noFault)
       (cond running (cond waits (obeying.silent d) (obeying.refused obeying.busy c)) (obeying.silent e))
   run-right true true d e = obeys Tell.Nothing Write.Nothing d
   run-right true false d e = busy
   run-right false waits d e = obeys Tell.Nothing Write.Nothing e
 
   again-right : (running : Bool) (d : Core)
-      → Right c (codeFor false false running false 0) (cond running (obeying.refused obeying.busy c) (obeying.silent d))
+      → Right c (faultFor false false running false noFault) (cond running (obeying.refused obeying.busy c) (obeying.silent d))
   again-right true d = busy
   again-right false d = obeys Tell.Nothing Write.Nothing d
 
@@ -105,13 +114,13 @@ module _ (c : Core) where
     -- a body of a kind, by what it begins with, whether it is immediate and whether it resumes
     abbrev AsKind : (begins immediate resuming : Bool) → Body → Type 0
     AsKind begins immediate resuming k =
-        Right c (codeFor begins immediate (c .running) resuming (bodyCode k b)) (obeying.kindObeyed k b c)
+        Right c (faultFor begins immediate (c .running) resuming (bodyFault k b)) (obeying.kindObeyed k b c)
 
     -- a body that begins with `T Q $ ?`, and any other
     begins-right : beginsImmediate b ≡ true → AsKind true (immediate b) (resuming c b) (immediateIn immediates b)
     unfolding table.oneOf
     begins-right e =
-        by-immediate (λ m k. AsKind true m (resuming c b) k) b e (λ i. rw (and-false (c .running)) (immediate-right i)) (refuses 2 refl)
+        by-immediate (λ m k. AsKind true m (resuming c b) k) b e (λ i. rw (and-false (c .running)) (immediate-right i)) (refuses (fault 2 1) refl)
 
     other-right : AsKind false (same b []) (same b (82 ∷ []) && waitsInput (c .motor .wait)) (otherOf b)
     unfolding lineOf
@@ -132,15 +141,86 @@ module _ (c : Core) where
         go true e = begins-right e
         go false e = rw (only-empty b e) other-right
 
-  any-right : (b : List ℕ) → Right c (codeInOrder b c) (obeying.bodyObeyed b c)
-  unfolding codeInOrder obeying.bodyObeyed lineCode table.oneOf
+  any-right : (b : List ℕ) → Right c (faultInOrder b c) (obeying.bodyObeyed b c)
+  unfolding faultInOrder obeying.bodyObeyed lineFault table.oneOf
   any-right b = go (ltb mostBytes (length b)) refl
     where
       go : (t : Bool) → ltb mostBytes (length b) ≡ t
-          → Right c (cond t 2 (codeFor (beginsImmediate b) (immediate b) (c .running) (resuming c b) (lineCode b))) (obeying.bodyObeyed b c)
-      go true e = rw (too-long b (ltb-true mostBytes (length b) e)) (refuses 2 refl)
+          → Right c (cond t (fault 2 0) (faultFor (beginsImmediate b) (immediate b) (c .running) (resuming c b) (lineFault b))) (obeying.bodyObeyed b c)
+      go true e = rw (too-long b (ltb-true mostBytes (length b) e)) (refuses (fault 2 0) refl)
       go false e = body-right b (ltb-false mostBytes (length b) e)
 
--- every body gets the code that the order names
+-- ---- the place
+
+-- a fault that is told with 2 or 3 has a place of n bytes or the one behind them; any other has none
+record Placed (n : ℕ) (f : Fault) : Type 0 where
+  inside : table.oneOf (2 ∷ 3 ∷ []) (f .code) ≡ true → PlacedIn n f
+  nowhere : table.oneOf (2 ∷ 3 ∷ []) (f .code) ≡ false → f .place ≡ 0
+
+-- a body that is taken has no place, one that is refused has one
+line-placed : (b : List ℕ) → length b ≤ mostBytes → Placed (length b) (lineFault b)
+unfolding lineCode table.oneOf each
+line-placed b m = record {
+  inside = λ e. place-there b m (λ z. some-code (lineCode b) e z);
+  nowhere = λ e. place-none b (no-code (lineCode b) (codes b) e);
+}
+  where
+    some-code : (k : ℕ) → table.oneOf (2 ∷ 3 ∷ []) k ≡ true → k ≡ 0 → ⊥
+    some-code k h e = let y = rw e at h in let w : _≡_ {A = ℕ} 0 1 = cc in omega arith
+
+    no-code : (k : ℕ) → table.oneOf (0 ∷ 2 ∷ 3 ∷ []) k ≡ true → table.oneOf (2 ∷ 3 ∷ []) k ≡ false → k ≡ 0
+    no-code k h e = eqb-true k 0 (left (eqb k 0) (rw e at h))
+      where
+        left : (t : Bool) → (t || false) ≡ true → t ≡ true
+        left true q = refl
+        left false q = q
+
+order-placed : (b : List ℕ) (c : Core) → length b ≤ mostBytes → Placed (length b) (faultInOrder b c)
+unfolding faultInOrder table.oneOf
+order-placed b c m =
+    rw (le-ltb mostBytes (length b) m)
+    (cases (Placed (length b)) (beginsImmediate b && not (immediate b))
+    (λ e. record { inside = λ k. record { first = omega arith; last = omega arith }; nowhere = λ k. let w : _≡_ {A = ℕ} 0 1 = cc in absurd (omega arith) })
+    (λ e. cases (Placed (length b)) (c .running && not (immediate b || resuming c b))
+    (λ q. record { inside = λ k. let w : _≡_ {A = ℕ} 0 1 = cc in absurd (omega arith); nowhere = λ k. refl })
+    (λ q. line-placed b m)))
+
+-- an over-long body has none
+order-long : (b : List ℕ) (c : Core) → mostBytes < length b → faultInOrder b c .place ≡ 0
+unfolding faultInOrder
+order-long b c l = rw (lt-ltb mostBytes (length b) l)
+
+order-nowhere : (b : List ℕ) (c : Core) → table.oneOf (2 ∷ 3 ∷ []) (faultInOrder b c .code) ≡ false → faultInOrder b c .place ≡ 0
+order-nowhere b c e = go (decLt mostBytes (length b))
+  where
+    go : Dec (mostBytes < length b) → faultInOrder b c .place ≡ 0
+    go (yes l) = order-long b c l
+    go (no n) = order-placed b c (omega arith) .nowhere e
+
+-- 257 has three digits
+place-digits : (p : ℕ) → p ≤ mostBytes + 1 → length (placeData p) ≤ 3
+place-digits zero h = omega arith
+place-digits (suc p) h = rw (ne-eqb (suc p) 0 (λ e. omega arith)) (length-most 3 (suc p) (omega arith) (omega arith))
+
+order-most : (b : List ℕ) (c : Core) → faultInOrder b c .place ≤ mostBytes + 1
+unfolding faultInOrder
+order-most b c =
+    cases Most (ltb mostBytes (length b)) (λ e. omega arith)
+    (λ e. cases Most (beginsImmediate b && not (immediate b)) (λ q. omega arith)
+    (λ q. cases Most (c .running && not (immediate b || resuming c b)) (λ r. omega arith) (λ r. place-most b)))
+  where
+    Most : Fault → Type 0
+    Most f = f .place ≤ mostBytes + 1
+
+-- every body gets the code that the order names, and the place
 pub order-row : (b : List ℕ) (c : Core) → OrderRow b c
-order-row b c = let h = any-right c b in record { codes = h .codes; refused = h .refused; held = h .held }
+order-row b c =
+    let h = any-right c b in
+    record {
+      codes = h .codes;
+      refused = h .refused;
+      placed = λ m e. order-placed b c m .inside e;
+      no-place = order-nowhere b c;
+      three-digits = place-digits (faultInOrder b c .place) (order-most b c);
+      held = h .held;
+    }

@@ -1,6 +1,6 @@
 -- The outcomes of start, feed and turn: the definitions make their tests in the order of 01's table.
 -- Assumes nothing.
-use Prim.Native.Nat.{ℕ, _≤_, _<_}
+use Prim.Native.Nat.{ℕ, zero, suc, _≤_, _<_}
 use mathlib.Core.Path.{_≡_, refl, _∙_}
 use mathlib.Core.List.{List, [], _∷_, _++_}
 use mathlib.Core.Bool.{Bool, true, false, cond, _||_}
@@ -17,6 +17,7 @@ use Rattle.image.specs.Image.{rightLength, slots, slotsGood}
 use Rattle.frames.specs.declared.Frame.{Frame}
 use Rattle.frames.specs.declared.Framing.{Framing}
 use Rattle.answers.specs.Packet.{packetBytes}
+use Rattle.obeying.specs.Obeying.{placeTold, dataOf}
 use Rattle.drive.specs.Unit.{Drive}
 use Rattle.drive.specs.declared.Last.{Last}
 use Rattle.drive.specs.Repeats.{isRefusal, numberedBy}
@@ -29,7 +30,7 @@ use Rattle.drive.specs.Names.{startName, feedName, turnName}
 use Rattle.drive.specs.Calls.{noUnit, freshUnit, Starting, starting, startOf, receivedBy, bodyBy, obeyedBy, packetAs, answerTo, feedRefused, feedTaken, feedOf, mostSample, turnRefused, turnTaken, turnOf}
 use Rattle.drive.proofs.AnswerLaws.{packet-fits}
 use Rattle.drive.proofs.FeedLaws.{put-nothing}
-use Rattle.claims.specs.Demand1.{StartRow, ImageRow, FrameRefused, frameCode, refusalPacket, FeedRow, TurnRow}
+use Rattle.claims.specs.Demand1.{StartRow, ImageRow, FrameRefused, frameFault, frameCode, placeData, refusalPacket, FeedRow, TurnRow}
 use Rattle.claims.proofs.OrderLaws.{order-row}
 
 pub start-row : (number : ℕ) (image body text : List ℕ) → StartRow number image body text
@@ -79,11 +80,16 @@ turn-row u sample ms steps image = record {
     go true false false = refl
     go false b d = refl
 
--- a packet without data at the front of a buffer of 262 bytes
-front : (g : Framing) (status : ℕ) (buffer : List ℕ) → packetBytes ≤ length buffer
-    → putIn buffer 0 (packetAs g status []) ≡ packetAs g status [] ++ drop (length (packetAs g status [])) buffer
-front g status buffer l =
-    put-in-room buffer 0 (packetAs g status []) (omega (arith, packet-fits g status [] (omega arith) .1)) ∙ put-front buffer (packetAs g status [])
+-- a packet of at most three digits at the front of a buffer of 262 bytes
+front : (g : Framing) (status : ℕ) (bytes buffer : List ℕ) → length bytes ≤ 3 → packetBytes ≤ length buffer
+    → putIn buffer 0 (packetAs g status bytes) ≡ packetAs g status bytes ++ drop (length (packetAs g status bytes)) buffer
+front g status bytes buffer h l =
+    put-in-room buffer 0 (packetAs g status bytes) (omega (arith, packet-fits g status bytes (omega arith) .1)) ∙ put-front buffer (packetAs g status bytes)
+
+-- a place as it is told
+told-place : (p n : ℕ) (text : List ℕ) → dataOf (placeTold p) n text ≡ placeData p
+told-place zero n text = refl
+told-place (suc p) n text = rw (ne-eqb (suc p) 0 (λ e. omega arith))
 
 -- a refused frame leaves the number
 refusal : (k : ℕ) → table.oneOf (0 ∷ 2 ∷ 3 ∷ 15 ∷ []) k ≡ true → (k ≡ 0 → ⊥) → isRefusal k ≡ true
@@ -107,13 +113,13 @@ module _ (u : Drive) (bytes image buffer : List ℕ) where
 
   module _ (l : packetBytes ≤ length buffer) (w : rightLength image ≡ true) where
     frame-refused : receivedBy u bytes .frame ≡ Frame.Alone → (frameCode u bytes ≡ 0 → ⊥)
-        → FrameRefused u bytes image buffer (refusalPacket u (receivedBy u bytes .framing) (frameCode u bytes))
+        → FrameRefused u bytes image buffer (refusalPacket u (receivedBy u bytes .framing) (frameFault u bytes))
     unfolding feedOf answerTo
     frame-refused f n =
         let h = order-row (bodyBy u bytes) (u .core) in
         let g = receivedBy u bytes .framing in
         let same = refused-last g (frameCode u bytes) (u .last) (refusal (frameCode u bytes) (h .codes) n) in
-        rw (le-ltb (length buffer) packetBytes l, w, f, h .refused n, front g _ buffer l, same)
+        rw (le-ltb (length buffer) packetBytes l, w, f, h .refused n, told-place _ _ _, front g _ _ buffer (h .three-digits) l, same)
 
     group-refused : receivedBy u bytes .frame ≡ Frame.Group → (frameCode u bytes ≡ 0 → ⊥) → FrameRefused u bytes image buffer []
     unfolding feedOf

@@ -6,9 +6,13 @@ use mathlib.Core.Path.{_≡_}
 use mathlib.Core.List.{List, [], _∷_, _++_}
 use mathlib.Core.Bool.{Bool, true, false, not, cond}
 use lib.ListN.{length, drop}
-use lib.Dec.{ltb}
+use lib.Dec.{ltb, eqb}
+use Rattle.digits.specs.Decimal.{decimal}
+use Rattle.commands.specs.declared.Fault.{Fault}
 use Rattle.commands.specs.Table as table
-use Rattle.lines.specs.Bodies.{lineCode}
+use Rattle.lines.specs.Texts.{mostBytes}
+use Rattle.lines.specs.Bodies.{lineFault, lineCode}
+use Rattle.lines.specs.Claims.{PlacedIn}
 use Rattle.image.specs.declared.Checked.{Checked}
 use Rattle.image.specs.Calls.{checkedOf}
 use Rattle.image.specs.Image.{rightLength, slots, slotsGood}
@@ -35,7 +39,7 @@ use Rattle.drive.specs.declared.FeedAnswer.{FeedAnswer}
 use Rattle.drive.specs.declared.TurnAnswer.{TurnAnswer}
 use Rattle.drive.specs.Names.{startName, feedName, turnName}
 use Rattle.drive.specs.Calls.{noUnit, freshUnit, starting, startOf, receivedBy, bodyBy, packetAs, feedRefused, feedOf, mostSample, turnRefused, turnOf}
-use Rattle.claims.specs.Order.{codeInOrder}
+use Rattle.claims.specs.Order.{faultInOrder, codeInOrder}
 
 -- "at start: unit number not 1 to 16, then image not 4,160 bytes, then bad image | named refusal, no unit"
 pub record StartRow (number : ℕ) (image body text : List ℕ) : Type 0 where
@@ -66,13 +70,20 @@ FrameRefused u bytes image buffer answer =
       buffer = answer ++ drop (length answer) buffer;
     }
 
--- the code of the frame that these bytes complete: of a repeat, of the body that it chooses
-abbrev pub frameCode : Drive → List ℕ → ℕ
-frameCode u bytes = codeInOrder (bodyBy u bytes) (u .core)
+-- the code of the frame that these bytes complete, and the place of its fault: of a repeat, those of the body that it chooses
+abbrev pub frameFault : Drive → List ℕ → Fault
+frameFault u bytes = faultInOrder (bodyBy u bytes) (u .core)
 
--- a refusal's packet: its code, no data, idle or running as before, in the frame's framing
-abbrev pub refusalPacket : Drive → Framing → ℕ → List ℕ
-refusalPacket u g code = packetAs g (statusOf (not (u .core .running)) code) []
+abbrev pub frameCode : Drive → List ℕ → ℕ
+frameCode u bytes = frameFault u bytes .code
+
+-- 02, E6: "the place of the fault as decimal data"; where there is none, "no data"
+abbrev pub placeData : ℕ → List ℕ
+placeData p = cond (eqb p 0) [] (decimal p)
+
+-- a refusal's packet: its code and its place, idle or running as before, in the frame's framing
+abbrev pub refusalPacket : Drive → Framing → Fault → List ℕ
+refusalPacket u g f = packetAs g (statusOf (not (u .core .running)) (f .code)) (placeData (f .place))
 
 pub record FeedRow (u : Drive) (bytes image buffer : List ℕ) : Type 0 where
   -- the names, in their order
@@ -85,15 +96,19 @@ pub record FeedRow (u : Drive) (bytes image buffer : List ℕ) : Type 0 where
       → feedOf u bytes image buffer ≡ feedRefused FeedAnswer.ImageLength u image buffer
   -- "code 2, 3 or 15", to this unit alone and to a group
   pub frame-refused : packetBytes ≤ length buffer → rightLength image ≡ true → receivedBy u bytes .frame ≡ Frame.Alone
-      → (frameCode u bytes ≡ 0 → ⊥) → FrameRefused u bytes image buffer (refusalPacket u (receivedBy u bytes .framing) (frameCode u bytes))
+      → (frameCode u bytes ≡ 0 → ⊥) → FrameRefused u bytes image buffer (refusalPacket u (receivedBy u bytes .framing) (frameFault u bytes))
   pub group-refused : packetBytes ≤ length buffer → rightLength image ≡ true → receivedBy u bytes .frame ≡ Frame.Group
       → (frameCode u bytes ≡ 0 → ⊥) → FrameRefused u bytes image buffer []
 
 -- "Order of checks for a frame", for every body and core
 pub record OrderRow (b : List ℕ) (c : Core) : Type 0 where
   pub codes : table.oneOf (0 ∷ 2 ∷ 3 ∷ 15 ∷ []) (codeInOrder b c) ≡ true
-  -- "A refused frame carries its own code and no data"; record unchanged, and nothing to write
-  pub refused : (codeInOrder b c ≡ 0 → ⊥) → bodyObeyed b c ≡ obeying.refused (codeInOrder b c) c
+  -- "A refused frame carries its own code", and by 02, E6, the place; record unchanged, and nothing to write
+  pub refused : (codeInOrder b c ≡ 0 → ⊥) → bodyObeyed b c ≡ obeying.refusedAt (faultInOrder b c) c
+  -- "refused with 2 or 3": a place in the body or just behind it, but for "an overlong body"; with 15 none; at most three digits
+  pub placed : length b ≤ mostBytes → table.oneOf (2 ∷ 3 ∷ []) (codeInOrder b c) ≡ true → PlacedIn (length b) (faultInOrder b c)
+  pub no-place : table.oneOf (2 ∷ 3 ∷ []) (codeInOrder b c) ≡ false → faultInOrder b c .place ≡ 0
+  pub three-digits : length (placeData (faultInOrder b c .place)) ≤ 3
   -- "all others carry the held code"
   pub held : codeInOrder b c ≡ 0 → bodyObeyed b c .code ≡ bodyObeyed b c .core .code
 
@@ -119,8 +134,8 @@ pub record HostRow : Type 0 where
       → codeOf l count ≡ 0 → length (writtenOf l) ≤ length buffer → answer ≡ Bytes (length (writtenOf l))
   pub no-room : {l : HostList} {count : ℕ} {buffer after : List ℕ} {answer : LineWritten} → LineIs l count buffer answer after
       → codeOf l count ≡ 0 → length buffer < length (writtenOf l) → answer ≡ NoRoom
-  pub refused : {l : HostList} {count code : ℕ} {buffer after : List ℕ} → LineIs l count buffer (Refused code) after
-      → LineRefusedIs l count code buffer after
+  pub refused : {l : HostList} {count : ℕ} {f : Fault} {buffer after : List ℕ} → LineIs l count buffer (Refused f) after
+      → LineRefusedIs l count f buffer after
   pub short : {l : HostList} {count : ℕ} {buffer after : List ℕ} → LineIs l count buffer NoRoom after
       → LineShortIs l count buffer after
 
@@ -150,3 +165,5 @@ pub record Demand1 : Type 0 where
   pub check-image : (image : List ℕ) → ImageRow image
   -- the line check has a code for every body
   pub check-line : (b : List ℕ) → table.oneOf (0 ∷ 2 ∷ 3 ∷ []) (lineCode b) ≡ true
+  -- 02, E6: and the place of its fault
+  pub line-place : (b : List ℕ) → length b ≤ mostBytes → (lineCode b ≡ 0 → ⊥) → PlacedIn (length b) (lineFault b)

@@ -67,11 +67,11 @@ letter-number (OrElse q m) r l s at n next a e = rw (e, a) (go (leb n widest))
 
 -- within its range it is not above all ranges
 number-within : (l : ℕ) (r : Range) (n next at : ℕ) → (within r n (next - at) ≡ true → n ≤ widest)
-    → required l r (numberTo n next) at ≡ cond (within r n (next - at)) (At (commandOf l n) next) (Bad badOperand)
+    → required l r (numberTo n next) at ≡ cond (within r n (next - at)) (At (commandOf l n) next) (Bad (badOperand at))
 number-within l r n next at h = go (leb n widest) refl (within r n (next - at)) refl
   where
     go : (b : Bool) → leb n widest ≡ b → (d : Bool) → within r n (next - at) ≡ d
-        → required l r (cond b (Number n next) (Above next)) at ≡ cond d (At (commandOf l n) next) (Bad badOperand)
+        → required l r (cond b (Number n next) (Above next)) at ≡ cond d (At (commandOf l n) next) (Bad (badOperand at))
     go true q d e = rw e
     go false q true e = let f = le-leb n widest (h e) in let z : _≡_ {A = ℕ} 0 1 = cc in absurd (omega arith)
     go false q false e = refl
@@ -94,7 +94,7 @@ module _ (s : List ℕ) (at l : ℕ) (rest : List ℕ) (e : drop at s ≡ l ∷ 
 -- a letter and a spelling of n
 read-number : (s rest : List ℕ) (at l n z : ℕ) (r : Range) → AsksFor (asksOf l) r → drop at s ≡ l ∷ (spelling z n ++ rest) → digitRun rest ≡ []
     → within r n (z + length (decimal n)) ≡ within r n 2 → (within r n 2 ≡ true → n ≤ widest)
-    → readAt s at ≡ cond (within r n 2) (At (commandOf l n) (at + length (l ∷ spelling z n))) (Bad badOperand)
+    → readAt s at ≡ cond (within r n 2) (At (commandOf l n) (at + length (l ∷ spelling z n))) (Bad (badOperand (at + 1)))
 read-number s rest at l n z r a e t w h =
     let next : ℕ = at + 1 + (z + length (decimal n)) in
     let count : next - (at + 1) ≡ z + length (decimal n) = omega arith in
@@ -137,7 +137,7 @@ row-of (Plain (Delay n)) = number 77 n (From 0 30000) refl (omega arith) refl
 row-of (Plain (WaitInput n)) = two 72 n refl refl
 
 read-row : {sp : Spelling} {c : Command} → RowOf sp c → (s rest : List ℕ) (at z : ℕ) → drop at s ≡ zeroed sp z ++ rest → follows sp rest
-    → readAt s at ≡ cond (permitted sp) (At c (at + length (zeroed sp z))) (Bad badOperand)
+    → readAt s at ≡ cond (permitted sp) (At c (at + length (zeroed sp z))) (Bad (badOperand (at + 1)))
 read-row (alone l a b) s rest at z e t = read-letter s at l rest e ∙ rw (a, b)
 read-row (number l n r a u b) s rest at z e t =
     read-number s rest at l n z r a e t (uncounted r n (z + length (decimal n)) 2 u) (λ k. within-most r n 2 u k)
@@ -179,7 +179,7 @@ follows-any (WithTwoDigits l n) rest t = t
 
 -- what the host writes reads back, or is refused
 pub reads-back : (s rest : List ℕ) (at : ℕ) (c : Command) → drop at s ≡ spelledOf c ++ rest → digitRun rest ≡ []
-    → readAt s at ≡ cond (inRange c) (At c (at + length (spelledOf c))) (Bad badOperand)
+    → readAt s at ≡ cond (inRange c) (At c (at + length (spelledOf c))) (Bad (badOperand (at + 1)))
 unfolding inRange spelledOf
 reads-back s rest at c e t =
     let z = zeroed-none (spellingOf c) in
@@ -305,7 +305,7 @@ module _ (s : List ℕ) (at l : ℕ) (here : drop at s ≡ l ∷ drop (at + 1) s
       go (Above next) w k = refused k
       go (Number m next) w k = taken (within r m (next - (at + 1))) refl k
         where
-          taken : (b : Bool) → within r m (next - (at + 1)) ≡ b → cond b (At (commandOf l m) next) (Bad badOperand) ≡ At c n → CommandAt s at c n
+          taken : (b : Bool) → within r m (next - (at + 1)) ≡ b → cond b (At (commandOf l m) next) (Bad (badOperand (at + 1))) ≡ At c n → CommandAt s at c n
           taken true t j = moved j (as-number r m next a (q m) w t)
           taken false t j = refused j
 

@@ -42,7 +42,7 @@ pub record RowIs (l : ℕ) (r : Lettered) : Type 0 where
   pub asks-so : r .asks ≡ asksOf l
   pub commands : (n : ℕ) → numberedAs n (r .command) ≡ commandOf l n
 
--- the letter's command with that number, or the fault
-abbrev pub finished : ℕ → Fitted → Read
-finished l (Fits n next) = At (commandOf l n) next
-finished l (Fails code) = Bad (fault code)
+-- the letter's command with that number, or the fault at the letter's place
+abbrev pub finished : ℕ → ℕ → Fitted → Read
+finished l p (Fits n next) = At (commandOf l n) next
+finished l p (Fails code) = Bad (fault code p)

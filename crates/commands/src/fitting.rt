@@ -13,7 +13,7 @@ use digits::Operand;
 
 // The number of a letter that asks so, with its operand from a place of s.
 pub(crate) fn fit_at(asks: Asks, s: &[u8], at: usize) -> Fitted
-    ensures { λ r. ⌜ ((l : ℕ) → finished l r ≡ letterAt asks l (now (s .entry)) at) ⌝ }
+    ensures { λ r. ⌜ ((l : ℕ) → finished l at r ≡ letterAt asks l (now (s .entry)) at) ⌝ }
 {
     match asks {
         Asks::Unknown => Fitted::Fails(2),
@@ -26,7 +26,7 @@ pub(crate) fn fit_at(asks: Asks, s: &[u8], at: usize) -> Fitted
 // The number of an operand that must stand at `at`.
 fn fit_required(range: Range, operand: Operand, at: usize) -> Fitted
     requires { ⌜ begins at operand ⌝ }
-    ensures { λ r. ⌜ ((l : ℕ) → finished l r ≡ required l range operand at) ⌝ }
+    ensures { λ r. ⌜ ((l : ℕ) → finished l at r ≡ required l range operand at) ⌝ }
 {
     let Operand::Number(n, next) = operand else {
         return Fitted::Fails(3);
@@ -41,7 +41,7 @@ fn fit_required(range: Range, operand: Operand, at: usize) -> Fitted
 // The same, where no operand means the number m.
 fn fit_or(range: Range, m: u32, operand: Operand, at: usize) -> Fitted
     requires { ⌜ begins at operand ⌝ }
-    ensures { λ r. ⌜ ((l : ℕ) → finished l r ≡ orElse l range m operand at) ⌝ }
+    ensures { λ r. ⌜ ((l : ℕ) → finished l at r ≡ orElse l range m operand at) ⌝ }
 {
     let Operand::Missing = operand else {
         return fit_required(range, operand, at);

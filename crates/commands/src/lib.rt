@@ -46,9 +46,10 @@ pub enum Setting {
     Baud,
 }
 
-// Why a line is refused: 2 or 3.
+// Why a line is refused, 2 or 3, and where: counting bytes from 1, 0 for no place.
 pub struct Fault {
     pub code: u8,
+    pub place: usize,
 }
 
 pub enum Read {
@@ -129,7 +130,10 @@ pub fn read_command(s: &[u8], at: usize) -> Read
     let fitted = fitting::fit_at(asks, s, at + 1);
     match fitted {
         Fitted::Fits(n, next) => Read::At(fitting::numbered(command, n), next),
-        Fitted::Fails(code) => Read::Bad(Fault { code: code }),
+        Fitted::Fails(code) => Read::Bad(Fault {
+            code: code,
+            place: at + 1,
+        }),
     }
 }
 

@@ -8,9 +8,9 @@ use lib.Dec.{ltb}
 use borrow.Author.Tests.{ltb-true, eqb-true}
 use Rattle.commands.specs.declared.Command.{Command}
 use Rattle.commands.specs.declared.Command.the-variants.{LoopBegin, LoopEnd, Skip, Jump, Plain}
-use Rattle.lines.specs.Texts.{commands, readingFrom, structured, skippable, mostOpen, lineJudged}
+use Rattle.lines.specs.Texts.{these, bare, bareFrom, structured, skippable, mostOpen, unplaced}
 use Rattle.lines.specs.Loops.{Checked}
-use Rattle.lines.proofs.LoopLaws.{passes}
+use Rattle.lines.proofs.LoopLaws.{line-passes}
 use Rattle.courses.specs.Meaning.{Course, ends, plain, skip, jump, loop, written, Tail, last, closing, onto, opening, tailOf, first, courseOf, courseIn}
 
 -- ---- a course read from what it is written as
@@ -88,6 +88,6 @@ is-course ds e = go (tailOf ds) (tailed 0 ds e)
     go (last c) h = h .same
     go (closing c n r) h = absurd (omega (arith, h .depth))
 
-pub text-course : (t : List ℕ) → Checked t → readingFrom t 0 ≡ commands (written (courseIn t))
-unfolding lineJudged courseIn
-text-course t h = let p = passes (structured 0) (readingFrom t 0) h in rw (p .1) (ap commands (sym (is-course (p .0) (p .2))))
+pub text-course : (t : List ℕ) → Checked t → bareFrom t 0 ≡ these (written (courseIn t))
+unfolding courseIn
+text-course t h = let p = line-passes t h in let e = ap bare (p .1) in rw e (ap these (sym (is-course (unplaced (p .0)) (p .2))))

@@ -8,7 +8,7 @@ use native.Mathlib.Decide.{ℕ-discrete}
 use lib.ListN.{length, getD, set}
 use lib.Seq.{getD-set-same, getD-set-other}
 use borrow.Author.Tests.{lt-ltb, le-ltb, eq-eqb, ne-eqb}
-use Rattle.lines.specs.Texts.{mostOpen, commands, readingFrom}
+use Rattle.lines.specs.Texts.{mostOpen, these, bareFrom}
 use Rattle.flow.specs.declared.Flow.{Flow}
 use Rattle.flow.specs.Flow as flow
 use Rattle.flow.specs.Flow.{again, closed}
@@ -37,7 +37,7 @@ loops-dones : (d i x : ℕ) (s dn : List ℕ) → d ≤ i → openLoops d s (set
 loops-dones zero i x s dn h = refl
 loops-dones (suc d) i x s dn h = rw (getD-set-other dn i d x 0 (omega arith), loops-dones d i x s dn (omega arith))
 
-pub begun-taken : {t : List ℕ} (f : Flow) (c : Course) → f .at ≡ 0 → f .depth ≡ 0 → readingFrom t 0 ≡ commands (written c) → Taken t c [] f
+pub begun-taken : {t : List ℕ} (f : Flow) (c : Course) → f .at ≡ 0 → f .depth ≡ 0 → bareFrom t 0 ≡ these (written c) → Taken t c [] f
 begun-taken f c a d e = rw (a, d) (stands-first c e)
 
 module _ {t : List ℕ} {whole : Course} {xs : List Step} (f : Flow) (h : FlowOk t f) where

@@ -11,11 +11,10 @@ use Rattle.commands.specs.declared.Command.the-variants.{LoopBegin, LoopEnd, Sk
 use Rattle.commands.specs.declared.Act.{Act}
 use Rattle.commands.specs.declared.Read.the-variants.{At, End}
 use Rattle.commands.specs.Reading.{readAt}
-use Rattle.lines.specs.Texts.{commands, before, readingFrom}
+use Rattle.lines.specs.Texts.{these, bareFrom}
 use Rattle.lines.specs.Loops.{Skippable}
 use Rattle.motor.specs.Inputs.{levelThere}
-use Rattle.lines.proofs.TextLaws.{reading-law}
-use Rattle.lines.proofs.LoopLaws.{before-is}
+use Rattle.lines.proofs.TextLaws.{bare-end, bare-at, bare-is}
 use Rattle.courses.specs.Meaning.{Course, ends, plain, skip, jump, loop, written, past, Again, Step, step, Runs, here, end, taken, tested, skipped, left, looped, looping, Rounds, none, more}
 
 -- an open loop: where its body begins, and how often that has run
@@ -37,14 +36,14 @@ pub data Inside (t : List ℕ) (whole : Course) : List Open → List Step → Co
       → Inside t whole os xs (loop body n behind) rest
       → Rounds body n k rs → ((n ≡ 0 → ⊥) → k ≡ o .done) → Again k n
       → Before c body ys
-      → readingFrom t (o .start) ≡ commands (written body ++ (LoopEnd n ∷ (written behind ++ rest)))
+      → bareFrom t (o .start) ≡ these (written body ++ (LoopEnd n ∷ (written behind ++ rest)))
       → Inside t whole (o ∷ os) (xs ++ (step LoopBegin s ∷ (rs ++ ys))) c (LoopEnd n ∷ (written behind ++ rest))
 
 -- the same at a place
 pub record Stands (t : List ℕ) (whole : Course) (at : ℕ) (os : List Open) (xs : List Step) : Type 0 where
   pub course : Course
   pub rest : List Command
-  pub reads : readingFrom t at ≡ commands (written course ++ rest)
+  pub reads : bareFrom t at ≡ these (written course ++ rest)
   pub within : Inside t whole os xs course rest
 
 -- ---- laws of `Inside`
@@ -74,17 +73,17 @@ stands-now s = rw append-nil at (stopped [] (s .within) here)
 
 -- ---- a text begun, and at its end
 
-pub stands-first : {t : List ℕ} (c : Course) → readingFrom t 0 ≡ commands (written c) → Stands t c 0 [] []
+pub stands-first : {t : List ℕ} (c : Course) → bareFrom t 0 ≡ these (written c) → Stands t c 0 [] []
 stands-first c e = record { course = c; rest = []; reads = rw (append-nil (written c)) e; within = outside (λ w es r. r) }
 
 pub stands-last : {t : List ℕ} {whole : Course} {at : ℕ} {os : List Open} {xs : List Step} → Stands t whole at os xs → readAt t at ≡ End → Runs whole true xs
 unfolding written
-stands-last {t} {whole} {at} {os} s e = go (s .course) (sym (rw e at (reading-law t at)) ∙ s .reads) (s .within)
+stands-last {t} {whole} {at} {os} s e = go (s .course) (sym (bare-end t at e) ∙ s .reads) (s .within)
   where
-    no-more : {A : Type 0} {d : Command} {xs : List Command} → commands [] ≡ commands (d ∷ xs) → A
+    no-more : {A : Type 0} {d : Command} {xs : List Command} → these [] ≡ these (d ∷ xs) → A
     no-more q = let z : _≡_ {A = ℕ} 0 1 = cc in absurd (omega arith)
 
-    go : (c : Course) {ps : List Open} {xs : List Step} {rest : List Command} → commands [] ≡ commands (written c ++ rest) → Inside t whole ps xs c rest → Runs whole true xs
+    go : (c : Course) {ps : List Open} {xs : List Step} {rest : List Command} → these [] ≡ these (written c ++ rest) → Inside t whole ps xs c rest → Runs whole true xs
     go ends {xs = xs} q (outside g) = rw append-nil at (g true [] end)
     go ends q (inside o body behind n k s ys p r l a g f) = no-more q
     go (plain a c) q i = no-more q
@@ -95,17 +94,17 @@ stands-last {t} {whole} {at} {os} s e = go (s .course) (sym (rw e at (reading-la
 -- ---- a command taken
 
 -- what is read is its first command, and the rest from behind it
-first-read : (t : List ℕ) (at : ℕ) {d x : Command} {n : ℕ} {xs : List Command} → readAt t at ≡ At d n → readingFrom t at ≡ commands (x ∷ xs)
-    → (x ≡ d) × (readingFrom t n ≡ commands xs)
+first-read : (t : List ℕ) (at : ℕ) {d x : Command} {n : ℕ} {xs : List Command} → readAt t at ≡ At d n → bareFrom t at ≡ these (x ∷ xs)
+    → (x ≡ d) × (bareFrom t n ≡ these xs)
 first-read t at {d} {x} {n} {xs} e r =
-    let p = before-is d (readingFrom t n) (x ∷ xs) (sym (rw e at (reading-law t at)) ∙ r) in
+    let p = bare-is d (bareFrom t n) (x ∷ xs) (sym (bare-at t at e) ∙ r) in
     let a : x ≡ d = cc in
     let b : xs ≡ p .0 = cc in
-    (a, p .1 ∙ ap commands (sym b))
+    (a, p .1 ∙ ap these (sym b))
 
-nothing-read : {A : Type 0} (t : List ℕ) (at : ℕ) {d : Command} {n : ℕ} → readAt t at ≡ At d n → readingFrom t at ≡ commands [] → A
+nothing-read : {A : Type 0} (t : List ℕ) (at : ℕ) {d : Command} {n : ℕ} → readAt t at ≡ At d n → bareFrom t at ≡ these [] → A
 nothing-read t at {d} {n} e r =
-    let p = before-is d (readingFrom t n) [] (sym (rw e at (reading-law t at)) ∙ r) in
+    let p = bare-is d (bareFrom t n) [] (sym (bare-at t at e) ∙ r) in
     let z : _≡_ {A = ℕ} 0 1 = cc in absurd (omega arith)
 
 -- `G m`, which n follows: back to the start of its loop, counted once more unless it runs for ever; or on
@@ -130,19 +129,19 @@ Next t whole os xs s (Plain a) n = Stands t whole n os xs
 
 module _ (t : List ℕ) (whole : Course) (at s : ℕ) {d : Command} {n : ℕ} (e : readAt t at ≡ At d n) where
   -- the course goes on behind a command that opens and closes nothing
-  on-course : {os : List Open} {xs : List Step} {rest : List Command} {c : Course} (b : Course) {x : Command} → readingFrom t n ≡ commands (written b ++ rest)
+  on-course : {os : List Open} {xs : List Step} {rest : List Command} {c : Course} (b : Course) {x : Command} → bareFrom t n ≡ these (written b ++ rest)
       → Inside t whole os xs c rest → ((w : Bool) (zs : List Step) → Runs b w zs → Runs c w (step x s ∷ zs)) → Stands t whole n os (xs ++ (step x s ∷ []))
   on-course {rest = rest} b {x} r i f = record { course = b; rest = rest; reads = r; within = advance (step x s ∷ []) f i }
 
-  plain-next : {os : List Open} {xs : List Step} {rest : List Command} (a : Act) (c : Course) → readingFrom t at ≡ commands (Plain a ∷ (written c ++ rest))
+  plain-next : {os : List Open} {xs : List Step} {rest : List Command} (a : Act) (c : Course) → bareFrom t at ≡ these (Plain a ∷ (written c ++ rest))
       → Inside t whole os xs (plain a c) rest → Next t whole os (xs ++ (step d s ∷ [])) s d n
   plain-next a c r i = let f = first-read t at e r in rw (← f .0) (on-course c (f .1) i (λ w zs q. taken q))
 
-  jump-next : {os : List Open} {xs : List Step} {rest : List Command} (k : ℕ) (c : Course) → readingFrom t at ≡ commands (Jump k ∷ (written c ++ rest))
+  jump-next : {os : List Open} {xs : List Step} {rest : List Command} (k : ℕ) (c : Course) → bareFrom t at ≡ these (Jump k ∷ (written c ++ rest))
       → Inside t whole os xs (jump k c) rest → Next t whole os (xs ++ (step d s ∷ [])) s d n
   jump-next k c r i = let f = first-read t at e r in rw (← f .0) (stopped (step (Jump k) s ∷ []) i left)
 
-  skip-next : {os : List Open} {xs : List Step} {rest : List Command} (k : ℕ) (c : Course) → readingFrom t at ≡ commands (Skip k ∷ (written c ++ rest))
+  skip-next : {os : List Open} {xs : List Step} {rest : List Command} (k : ℕ) (c : Course) → bareFrom t at ≡ these (Skip k ∷ (written c ++ rest))
       → Inside t whole os xs (skip k c) rest → Next t whole os (xs ++ (step d s ∷ [])) s d n
   unfolding written
   skip-next {os} {xs} {rest} k c r i =
@@ -160,16 +159,16 @@ module _ (t : List ℕ) (whole : Course) (at s : ℕ) {d : Command} {n : ℕ} (e
       Over : ℕ → Type 0
       Over l = Stands t whole l os (xs ++ (step (Skip k) s ∷ []))
 
-      over : levelThere k s ≡ true → (b c : Course) {x y : Command} {l : ℕ} → past c ≡ b → readAt t n ≡ At x l → readingFrom t n ≡ commands (y ∷ (written b ++ rest))
+      over : levelThere k s ≡ true → (b c : Course) {x y : Command} {l : ℕ} → past c ≡ b → readAt t n ≡ At x l → bareFrom t n ≡ these (y ∷ (written b ++ rest))
           → Inside t whole os xs (skip k c) rest → Over l
       over v b c z q r i = record { course = b; rest = rest; reads = first-read t n q r .1; within = advance (step (Skip k) s ∷ []) (λ w zs y. skipped v (rw z y)) i }
 
-      end-read : (x : Command) (l : ℕ) (us : List Command) → readAt t n ≡ At x l → readingFrom t n ≡ commands us → {ps : List Open} {ys : List Step} {b : Course}
+      end-read : (x : Command) (l : ℕ) (us : List Command) → readAt t n ≡ At x l → bareFrom t n ≡ these us → {ps : List Open} {ys : List Step} {b : Course}
           → Inside t whole ps ys b us → Skippable (At x l) → Over l
       end-read x l us q r (outside g) y = nothing-read t n q r
       end-read x l us q r (inside o body behind m j v ys p y z a g h) u = absurd (rw (← first-read t n q r .0) at u)
 
-      go : levelThere k s ≡ true → (c : Course) → readingFrom t n ≡ commands (written c ++ rest) → Inside t whole os xs (skip k c) rest → (x : Command) (l : ℕ)
+      go : levelThere k s ≡ true → (c : Course) → bareFrom t n ≡ these (written c ++ rest) → Inside t whole os xs (skip k c) rest → (x : Command) (l : ℕ)
           → readAt t n ≡ At x l → Skippable (At x l) → Over l
       go v ends r i x l q y = end-read x l rest q r i y
       go v (plain a c) r i x l q y = over v c (plain a c) refl q r i
@@ -178,11 +177,11 @@ module _ (t : List ℕ) (whole : Course) (at s : ℕ) {d : Command} {n : ℕ} (e
       go v (loop body m c) r i x l q y = absurd (rw (← first-read t n q r .0) at y)
 
   loop-next : {os : List Open} {xs : List Step} {rest : List Command} (body : Course) (m : ℕ) (c : Course)
-      → readingFrom t at ≡ commands (LoopBegin ∷ ((written body ++ (LoopEnd m ∷ written c)) ++ rest))
+      → bareFrom t at ≡ these (LoopBegin ∷ ((written body ++ (LoopEnd m ∷ written c)) ++ rest))
       → Inside t whole os xs (loop body m c) rest → Next t whole os (xs ++ (step d s ∷ [])) s d n
   loop-next {rest = rest} body m c r i =
       let f = first-read t at e r in
-      let g = f .1 ∙ ap commands (append-assoc (written body) (LoopEnd m ∷ written c) rest) in
+      let g = f .1 ∙ ap these (append-assoc (written body) (LoopEnd m ∷ written c) rest) in
       rw (← f .0) (record {
         course = body;
         rest = LoopEnd m ∷ (written c ++ rest);
@@ -190,7 +189,7 @@ module _ (t : List ℕ) (whole : Course) (at s : ℕ) {d : Command} {n : ℕ} (e
         within = inside (opened n 0) body c m 0 s [] i none (λ z. refl) (λ z. omega arith) (λ w zs q. q) g;
       })
 
-  end-next : {os : List Open} {xs : List Step} {rest : List Command} → readingFrom t at ≡ commands rest → Inside t whole os xs ends rest
+  end-next : {os : List Open} {xs : List Step} {rest : List Command} → bareFrom t at ≡ these rest → Inside t whole os xs ends rest
       → Next t whole os (xs ++ (step d s ∷ [])) s d n
   end-next r (outside g) = nothing-read t at e r
   end-next r (inside o {os = os} {xs = xs} {rest = rest} body behind m k s′ {rs} ys p q l a g h) =
@@ -238,7 +237,7 @@ module _ (t : List ℕ) (whole : Course) (at s : ℕ) {d : Command} {n : ℕ} (e
   unfolding written
   next-stands y = go (y .course) (y .reads) (y .within)
     where
-      go : {os : List Open} {xs : List Step} {rest : List Command} (c : Course) → readingFrom t at ≡ commands (written c ++ rest) → Inside t whole os xs c rest
+      go : {os : List Open} {xs : List Step} {rest : List Command} (c : Course) → bareFrom t at ≡ these (written c ++ rest) → Inside t whole os xs c rest
           → Next t whole os (xs ++ (step d s ∷ [])) s d n
       go ends r i = end-next r i
       go (plain a c) r i = plain-next a c r i

@@ -7,7 +7,7 @@ use lib.ListN.{length}
 use Rattle.commands.specs.declared.Command.{Command}
 use Rattle.commands.specs.declared.Command.the-variants.{LoopBegin, LoopEnd, Plain}
 use Rattle.commands.specs.declared.Act.the-variants.{MoveUp, MoveDown}
-use Rattle.lines.specs.Texts.{structured, commands, readingFrom}
+use Rattle.lines.specs.Texts.{structured, these, bareFrom}
 use Rattle.lines.specs.Loops.{Checked}
 use Rattle.lines.specs.Examples.{bytes}
 use Rattle.courses.specs.Counting.{counting}
@@ -29,7 +29,7 @@ pub record CourseClaims : Type 0 where
   -- every list of commands with a right structure is a course, and one only
   pub is-course : (ds : List Command) → structured 0 ds ≡ true → written (courseOf ds) ≡ ds
   pub one-course : (c : Course) → courseOf (written c) ≡ c
-  pub text-course : (t : List ℕ) → Checked t → readingFrom t 0 ≡ commands (written (courseIn t))
+  pub text-course : (t : List ℕ) → Checked t → bareFrom t 0 ≡ these (written (courseIn t))
   -- without `S`, `e` and `G0` a run goes one way only
   pub one-way : {c : Course} {xs : List Step} → Steady c → Runs c true xs → commandsOf xs ≡ unrolled c
   pub in-order : {c : Course} {xs : List Step} → Steady c → Runs c false xs → (es : List Command) × (unrolled c ≡ commandsOf xs ++ es)

@@ -106,7 +106,7 @@ same-run h = record { text-same = h .0; flow-same = h .1; settings-same = h .2; 
 
 obeys-same : {body : List ℕ} (text : List ℕ) {c : Core} {o : Obeyed} → c .running ≡ true → Obeys body c o → Same text c (textWritten (o .write) body text) (o .core)
 unfolding ended
-obeys-same text h (refuses k l) = (refl, refl, refl, refl)
+obeys-same text h (refuses f l p) = (refl, refl, refl, refl)
 obeys-same text h (tells t l) = (refl, refl, refl, refl)
 obeys-same text h (stores slot at n i l) = (refl, refl, refl, refl)
 obeys-same text h clears = (refl, refl, refl, refl)

@@ -1,6 +1,6 @@
 // The C port: the line check, the count of commands, the image check and the ramp figures, through plain numbers and byte slices.
 ghost use mathlib.Core.Path.{_≡_};
-ghost use Rattle.lines.specs.Bodies.{lineCode};
+ghost use Rattle.lines.specs.Bodies.{lineFault, lineCode};
 ghost use Rattle.firmware.specs.Port.{textNumber, imageNumber, figures, rampNumber, countedNumber};
 use forecast::Counted;
 use image::Checked;
@@ -14,7 +14,19 @@ const UNCOUNTED: u64 = 9223372036854775808;
 pub extern "C" fn dt_check_line(body: &[u8]) -> u32
     ensures { λ r. ⌜ r ≡ lineCode (now (body .entry)) ⌝ }
 {
-    lines::check_line(body) as u32
+    let fault = lines::check_line(body);
+    let code = fault.code;
+    code as u32
+}
+
+// The place of the fault in a frame's body, counting its bytes from 1; 0 where there is none.
+#[no_mangle]
+pub extern "C" fn dt_line_place(body: &[u8]) -> u32
+    ensures { λ r. ⌜ r ≡ lineFault (now (body .entry)) .place ⌝ }
+{
+    let fault = lines::check_line(body);
+    let place = fault.place;
+    place as u32
 }
 
 // 0 where a text may be stored, else 1.

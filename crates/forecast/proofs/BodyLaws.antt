@@ -14,14 +14,14 @@ use Rattle.commands.specs.Table.{oneOf}
 use Rattle.commands.specs.Reading.{fault, readAt}
 use Rattle.lines.specs.declared.Body.{Body}
 use Rattle.lines.specs.declared.Taken.{Taken}
-use Rattle.lines.specs.Texts.{readingIn, readingFrom, structured, lineJudged, mostBytes}
-use Rattle.lines.specs.Bodies.{Row, immediates, immediateIn, beginsImmediate, otherOf, bodyOf, lineOf, takenCode, bodyCode, lineCode}
+use Rattle.lines.specs.Texts.{readingIn, readingFrom, unplaced, faultPlaces, lineJudged, mostBytes}
+use Rattle.lines.specs.Bodies.{Row, immediates, immediateIn, beginsImmediate, otherOf, bodyOf, lineOf, takenFault, bodyFault, bodyCode, lineFault}
 use Rattle.lines.specs.Loops.{Checked}
 use Rattle.lines.proofs.CodeLaws.{Code, two, TakenCode, taken-code}
 use Rattle.lines.proofs.TakenLaws.{held, stored, text-checked}
 use Rattle.courses.specs.Meaning.{tailOf, courseOf, cost, courseIn, commandsIn}
 use Rattle.forecast.specs.declared.Counted.{Counted}
-use Rattle.forecast.specs.Count.{anyBarred, countText, takenText, textIn, bodyText, countOf}
+use Rattle.forecast.specs.Count.{anyBarred, countText, takenText, textIn, bodyText, unlessRefused, countOf}
 use Rattle.forecast.specs.Pass.{textCounted, takenCounted, lineCounted}
 use Rattle.forecast.proofs.CountLaws.{text-counted}
 
@@ -53,23 +53,29 @@ no-zero : (f : Fault) → Code f → f .code ≡ 0 → ⊥
 unfolding oneOf
 no-zero f h e = false≢true (rw e at h)
 
-told-code : (b : List ℕ) (f : Fault) → Code f → lineCode b ≡ f .code → Counted.Refused f ≡ countOf b
+told-fault : (b : List ℕ) (f : Fault) → Code f → lineFault b ≡ f → Counted.Refused f ≡ countOf b
 unfolding countOf
-told-code b f h e = rw (e, ne-eqb (f .code) 0 (no-zero f h))
+told-fault b f h e =
+    subst (λ (x : Fault). Counted.Refused f ≡ unlessRefused x (countText (bodyText b))) (sym e) (rw (ne-eqb (f .code) 0 (no-zero f h)))
 
 pub body-refused : (b : List ℕ) (f : Fault) → bodyOf b ≡ Body.Refused f → Counted.Refused f ≡ countOf b
-unfolding lineCode
-body-refused b f e = told-code b f (subst BodyTwo e (body-two b)) (rw e)
+unfolding lineFault
+body-refused b f e = told-fault b f (subst BodyTwo e (body-two b)) (rw e)
 
 -- ---- nothing to count
 
 none : Counted.Commands 0 ≡ countText []
-unfolding countText anyBarred readingIn readingFrom readAt tailOf courseOf cost courseIn commandsIn
+unfolding countText anyBarred readingIn readingFrom readAt unplaced tailOf courseOf cost courseIn commandsIn
 none = refl
 
+none-at : (f : Fault) (t : List ℕ) → f .code ≡ 0 → t ≡ [] → Counted.Commands 0 ≡ unlessRefused f (countText t)
+none-at f t c e = rw (c, e) none
+
 pub body-none : (b : List ℕ) (k : Body) → bodyOf b ≡ k → bodyCode k b ≡ 0 → textIn k b ≡ [] → Counted.Commands 0 ≡ countOf b
-unfolding countOf lineCode bodyText
-body-none b k e c t = rw (e, c, t) none
+unfolding countOf lineFault bodyText
+body-none b k e c t =
+    subst (λ (x : Body). Counted.Commands 0 ≡ unlessRefused (bodyFault x b) (countText (textIn x b))) (sym e)
+    (none-at (bodyFault k b) (textIn k b) c t)
 
 -- ---- a line or a store
 
@@ -85,7 +91,7 @@ short : (b : List ℕ) → bodyOf b ≡ Body.Line → length b ≤ mostBytes
 unfolding bodyOf
 short b e = go (ltb mostBytes (length b)) refl e
   where
-    go : (o : Bool) → ltb mostBytes (length b) ≡ o → cond o (Body.Refused (fault 2)) (cond (beginsImmediate b) (immediateIn immediates b) (otherOf b)) ≡ Body.Line → length b ≤ mostBytes
+    go : (o : Bool) → ltb mostBytes (length b) ≡ o → cond o (Body.Refused (fault 2 0)) (cond (beginsImmediate b) (immediateIn immediates b) (otherOf b)) ≡ Body.Line → length b ≤ mostBytes
     go true z h = absurd (subst NotRefused (sym h) tt)
     go false z h = ltb-false _ _ z
 
@@ -95,18 +101,19 @@ line-code b = taken-code _ _
 
 -- its text passed the check, so the pass gives the formula
 pub body-line : (b : List ℕ) → bodyOf b ≡ Body.Line → lineCounted b ≡ countOf b
-unfolding lineCounted countOf lineCode bodyText
-body-line b e = go (lineOf b) refl
+unfolding lineCounted countOf lineFault bodyText
+body-line b e =
+    subst (λ (k : Body). lineCounted b ≡ unlessRefused (bodyFault k b) (countText (textIn k b))) (sym e) (go (lineOf b) refl)
   where
-    go : (x : Taken) → lineOf b ≡ x → takenCounted x b ≡ countOf b
-    go (Taken.Refused f) z = told-code b f (subst TakenCode z (line-code b)) (rw (e, z))
-    go (Taken.Line n run) z = rw (e, z) (text-counted (take n b) (held b n run z .checked))
-    go (Taken.Store slot at n) z = rw (e, z) (text-counted (part b at n) (text-checked _ (stored b slot at n z (short b e) .good)))
+    go : (x : Taken) → lineOf b ≡ x → takenCounted x b ≡ unlessRefused (takenFault x) (countText (takenText x b))
+    go (Taken.Refused f) z = rw (ne-eqb (f .code) 0 (no-zero f (subst TakenCode z (line-code b))))
+    go (Taken.Line n run) z = text-counted (take n b) (held b n run z .checked)
+    go (Taken.Store slot at n) z = text-counted (part b at n) (text-checked _ (stored b slot at n z (short b e) .good))
 
 -- ---- the text of a body passed the check, whatever the body is
 
 empty-checked : Checked []
-unfolding lineJudged readingIn readingFrom readAt structured
+unfolding lineJudged readingIn readingFrom readAt faultPlaces
 empty-checked = refl
 
 pub text-of-checked : (b : List ℕ) → Checked (bodyText b)

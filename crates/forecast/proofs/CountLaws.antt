@@ -12,9 +12,9 @@ use Rattle.parts.proofs.Laws.{cases}
 use Rattle.commands.specs.declared.Command.{Command}
 use Rattle.commands.specs.declared.Command.the-variants.{LoopBegin, LoopEnd, Skip, Jump, Plain}
 use Rattle.commands.specs.declared.Act.{Act}
-use Rattle.lines.specs.Texts.{readingFrom, structured, mostOpen, lineJudged}
+use Rattle.lines.specs.Texts.{readingFrom, unplaced, structured, mostOpen}
 use Rattle.lines.specs.Loops.{Checked}
-use Rattle.lines.proofs.LoopLaws.{passes}
+use Rattle.lines.proofs.LoopLaws.{line-passes}
 use Rattle.courses.specs.Meaning.{courseOf, cost, courseIn, commandsIn}
 use Rattle.courses.specs.Counting.{counting}
 use Rattle.courses.proofs.CourseLaws.{is-course}
@@ -206,5 +206,5 @@ commands-counted ds g =
     pass-counts ds 0 begun 0 [] g refl refl t ∙ ap (λ (l : List ℕ). cond (anyBarred ds) Letter (bounded (head l))) c
 
 pub text-counted : (t : List ℕ) → Checked t → textCounted t ≡ countText t
-unfolding textCounted countText commandsIn courseIn lineJudged
-text-counted t h = let p = passes (structured 0) (readingFrom t 0) h in rw (p .1) (commands-counted (p .0) (p .2))
+unfolding textCounted countText commandsIn courseIn
+text-counted t h = let p = line-passes t h in rw (p .1) (commands-counted (unplaced (p .0)) (p .2))

@@ -10,7 +10,7 @@ use Rattle.commands.specs.declared.Fault.{Fault}
 use Rattle.commands.specs.declared.Read.the-variants.{At, Bad, End}
 use Rattle.commands.specs.Reading.{readAt}
 use Rattle.commands.proofs.ReadingLaws.{read-step}
-use Rattle.lines.specs.Texts.{Reading, commands, faulty, before, readingFrom}
+use Rattle.lines.specs.Texts.{Reading, commands, faulty, placed, unplaced, before, readingFrom}
 use Rattle.lines.proofs.TextLaws.{reading-law}
 use Rattle.forecast.specs.declared.Counted.the-variants.{Refused}
 use Rattle.forecast.specs.declared.Tally.{Tally}
@@ -24,18 +24,18 @@ pub tallying : (t : List ℕ) → Tallying t (tally 0 0 0 0 0 false false) 0
 unfolding textCounted
 tallying t = record { same = refl; inside = omega arith }
 
-told-next : (y : Tally) (c : Command) (r : Reading) → toldOn y (before c r) ≡ toldOn (tallied y c) r
-unfolding tallyOn
-told-next y c (commands ds) = refl
-told-next y c (faulty f) = refl
+told-next : (y : Tally) (p : ℕ) (c : Command) (r : Reading) → toldOn y (before (placed p c) r) ≡ toldOn (tallied y c) r
+unfolding tallyOn unplaced
+told-next y p c (commands ds) = refl
+told-next y p c (faulty f) = refl
 
 pub tally-on : {t : List ℕ} {y : Tally} {at : ℕ} {c : Command} {n : ℕ} → Tallying t y at → readAt t at ≡ At c n → Tallying t (tallied y c) n
 tally-on {t} {y} {at} {c} {n} h e =
-    record { same = h .same ∙ rw (reading-law t at, e) (told-next y c (readingFrom t n)); inside = read-step t at e .1 }
+    record { same = h .same ∙ rw (reading-law t at, e) (told-next y _ c (readingFrom t n)); inside = read-step t at e .1 }
 
 pub tally-bad : {t : List ℕ} {y : Tally} {at : ℕ} {f : Fault} → Tallying t y at → readAt t at ≡ Bad f → Refused f ≡ textCounted t
 tally-bad {t} {y} {at} h e = sym (h .same ∙ rw (reading-law t at, e))
 
 pub tally-end : {t : List ℕ} {y : Tally} {at : ℕ} → Tallying t y at → readAt t at ≡ End → told y ≡ textCounted t
-unfolding tallyOn
+unfolding tallyOn unplaced
 tally-end {t} {y} {at} h e = sym (h .same ∙ rw (reading-law t at, e))

@@ -8,8 +8,8 @@ use borrow.Author.Tests.{leb-true, eqb-false}
 use Rattle.commands.specs.declared.Command.{Command}
 use Rattle.commands.specs.declared.Command.the-variants.{LoopEnd}
 use Rattle.commands.specs.Reading.{fault}
-use Rattle.lines.specs.Texts.{readingFrom}
-use Rattle.lines.specs.Bodies.{lineCode}
+use Rattle.lines.specs.Texts.{bareFrom}
+use Rattle.lines.specs.Bodies.{lineFault}
 use Rattle.lines.specs.Loops.{Checked}
 use Rattle.courses.specs.Meaning.{Course, ends, plain, skip, jump, loop, written, Steady, courseIn, commandsIn}
 use Rattle.courses.proofs.CourseLaws.{text-course}
@@ -60,7 +60,7 @@ number Letter = 0
 number TooMany = 0
 
 record TextTold (t : List ℕ) (k : ℕ) : Type 0 where
-  pub no-letter : barredRead (readingFrom t 0) ≡ false
+  pub no-letter : barredRead (bareFrom t 0) ≡ false
   pub within : leb k mostCounted ≡ true
   pub same : commandsIn t ≡ k
 
@@ -73,17 +73,17 @@ bound-told m k = go (leb m mostCounted) refl
 
 text-told : (t : List ℕ) (k : ℕ) → countText t ≡ Commands k → TextTold t k
 unfolding countText
-text-told t k = go (barredRead (readingFrom t 0)) refl
+text-told t k = go (barredRead (bareFrom t 0)) refl
   where
-    go : (o : Bool) → barredRead (readingFrom t 0) ≡ o → cond o Letter (bounded (commandsIn t)) ≡ Commands k → TextTold t k
+    go : (o : Bool) → barredRead (bareFrom t 0) ≡ o → cond o Letter (bounded (commandsIn t)) ≡ Commands k → TextTold t k
     go true z e = absurd (subst IsNumber (sym e) tt)
     go false z e = let h = bound-told (commandsIn t) k e in record { no-letter = z; within = rw (h .1) at (h .0); same = h .1 }
 
 body-told : (b : List ℕ) (k : ℕ) → countOf b ≡ Commands k → TextTold (bodyText b) k
 unfolding countOf
-body-told b k = go (eqb (lineCode b) 0)
+body-told b k = go (eqb (lineFault b .code) 0)
   where
-    go : (o : Bool) → cond o (countText (bodyText b)) (Refused (fault (lineCode b))) ≡ Commands k → TextTold (bodyText b) k
+    go : (o : Bool) → cond o (countText (bodyText b)) (Refused (lineFault b)) ≡ Commands k → TextTold (bodyText b) k
     go true e = text-told (bodyText b) k e
     go false e = absurd (subst IsNumber (sym e) tt)
 

@@ -9,12 +9,12 @@ use Rattle.parts.specs.Parts.{part}
 use Rattle.commands.specs.declared.Command.{Command}
 use Rattle.commands.specs.declared.Command.the-variants.{LoopBegin, LoopEnd, Skip, Jump, Plain}
 use Rattle.commands.specs.declared.Act.{Act}
+use Rattle.commands.specs.declared.Fault.{Fault}
 use Rattle.commands.specs.declared.Act.the-variants.{MoveTo, MoveUp, MoveDown, SetPosition, Home, Set, Delay, WaitInput}
-use Rattle.commands.specs.Reading.{fault}
 use Rattle.lines.specs.declared.Body.{Body}
 use Rattle.lines.specs.declared.Taken.{Taken}
-use Rattle.lines.specs.Texts.{Reading, commands, faulty, readingFrom}
-use Rattle.lines.specs.Bodies.{bodyOf, lineOf, lineCode}
+use Rattle.lines.specs.Texts.{Bare, these, amiss, bareFrom}
+use Rattle.lines.specs.Bodies.{bodyOf, lineOf, lineFault}
 use Rattle.courses.specs.Meaning.{commandsIn}
 use Rattle.forecast.specs.declared.Counted.{Counted}
 use Rattle.forecast.specs.declared.Counted.the-variants.{Commands, Refused, Letter, TooMany}
@@ -47,9 +47,9 @@ anyBarred [] = false
 anyBarred (d ∷ ds) = barred d || anyBarred ds
 
 -- "then a letter from that list"
-abbrev pub barredRead : Reading → Bool
-barredRead (commands ds) = anyBarred ds
-barredRead (faulty f) = false
+abbrev pub barredRead : Bare → Bool
+barredRead (these ds) = anyBarred ds
+barredRead (amiss k) = false
 
 -- "then a count over 2^63 − 1"
 abbrev pub bounded : ℕ → Counted
@@ -57,7 +57,7 @@ bounded k = cond (leb k mostCounted) (Commands k) TooMany
 
 -- of a text: "a loop costs 1 + n × (body + 1)" is `commandsIn`
 unfoldable pub countText : List ℕ → Counted
-countText t = cond (barredRead (readingFrom t 0)) Letter (bounded (commandsIn t))
+countText t = cond (barredRead (bareFrom t 0)) Letter (bounded (commandsIn t))
 
 -- the text of a body: a line's commands without its `R`, or the text that is stored; all other bodies have none
 abbrev pub takenText : Taken → List ℕ → List ℕ
@@ -76,6 +76,9 @@ textIn Body.Line b = takenText (lineOf b) b
 unfoldable pub bodyText : List ℕ → List ℕ
 bodyText b = textIn (bodyOf b) b
 
--- "Refusals: by name, the line check's code, then .."
+-- "Refusals: by name, the line check's code, then .."; with E6 its place too
+abbrev pub unlessRefused : Fault → Counted → Counted
+unlessRefused f c = cond (eqb (f .code) 0) c (Refused f)
+
 unfoldable pub countOf : List ℕ → Counted
-countOf b = cond (eqb (lineCode b) 0) (countText (bodyText b)) (Refused (fault (lineCode b)))
+countOf b = unlessRefused (lineFault b) (countText (bodyText b))

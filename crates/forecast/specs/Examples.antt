@@ -65,17 +65,17 @@ examples =
     ∷ example "D0" Letter
     ∷ example "s5A1e6R" Letter
     -- "the line check's code, then a letter": the fault stands first or last
-    ∷ example "e0A2147483648R" (Refused (fault 3))
-    ∷ example "A1HxR" (Refused (fault 2))
-    ∷ example "P0S01R" (Refused (fault 2))
-    ∷ example "s16P0R" (Refused (fault 3))
-    ∷ example "s3P0" (Refused (fault 2))
-    ∷ example "?1" (Refused (fault 2))
-    ∷ record { body = 65 ∷ (replicate 255 48 ++ bytes "R"); gives = Refused (fault 2) }
+    ∷ example "e0A2147483648R" (Refused (fault 3 3))
+    ∷ example "A1HxR" (Refused (fault 2 4))
+    ∷ example "P0S01R" (Refused (fault 2 3))
+    ∷ example "s16P0R" (Refused (fault 3 1))
+    ∷ example "s3P0" (Refused (fault 2 5))
+    ∷ example "?1" (Refused (fault 2 1))
+    ∷ record { body = 65 ∷ (replicate 255 48 ++ bytes "R"); gives = Refused (fault 2 0) }
     -- "then a count over": the letter stands before it or behind it
     ∷ example "D0ggggA1A1A1A1A1A1A1A1A1A1A1G30000G30000G30000G30000R" Letter
     ∷ example "ggggA1A1A1A1A1A1A1A1A1A1A1G30000G30000G30000G30000HR" Letter
-    ∷ example "gggggA1A1A1A1A1A1A1A1A1A1A1G30000G30000G30000G30000G2HR" (Refused (fault 2))
+    ∷ example "gggggA1A1A1A1A1A1A1A1A1A1A1G30000G30000G30000G30000G2HR" (Refused (fault 2 5))
     ∷ []
 
 unfoldable pub counts : List Example → List Counted

@@ -9,7 +9,7 @@ use Rattle.commands.specs.declared.Command.{Command}
 use Rattle.commands.specs.declared.Command.the-variants.{LoopBegin, LoopEnd, Skip, Jump, Plain}
 use Rattle.commands.specs.declared.Act.{Act}
 use Rattle.lines.specs.declared.Taken.{Taken}
-use Rattle.lines.specs.Texts.{Reading, commands, faulty, readingFrom}
+use Rattle.lines.specs.Texts.{Reading, commands, faulty, unplaced, readingFrom}
 use Rattle.lines.specs.Bodies.{lineOf}
 use Rattle.forecast.specs.declared.Counted.{Counted}
 use Rattle.forecast.specs.declared.Counted.the-variants.{Commands, Refused, Letter, TooMany}
@@ -66,7 +66,7 @@ abbrev pub told : Tally → Counted
 told t = cond (t .letter) Letter (cond (t .over) TooMany (Commands (t .here)))
 
 abbrev pub toldOn : Tally → Reading → Counted
-toldOn t (commands ds) = told (tallyOn t ds)
+toldOn t (commands ds) = told (tallyOn t (unplaced ds))
 toldOn t (faulty f) = Refused f
 
 unfoldable pub textCounted : List ℕ → Counted

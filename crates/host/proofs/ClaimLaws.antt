@@ -14,6 +14,7 @@ use Rattle.parts.proofs.Laws.{take-put, drop-put, length-put, put-front}
 use Rattle.digits.specs.Decimal.{digitsIn, digitsOf, ascii, decimal}
 use Rattle.digits.proofs.Writing.{decimal-last, decimal-more, length-some}
 use Rattle.commands.specs.declared.Command.{Command}
+use Rattle.commands.specs.declared.Fault.{Fault}
 use Rattle.commands.specs.declared.Spelling.{Spelling}
 use Rattle.commands.specs.declared.Spelling.the-variants.{Alone, WithNumber, WithTwoDigits}
 use Rattle.commands.specs.Table.{oneOf}
@@ -22,15 +23,16 @@ use Rattle.commands.proofs.WritingLaws.{spells-itself, spelling-some}
 use Rattle.lines.specs.declared.Slot.{Slot}
 use Rattle.lines.specs.declared.Slot.the-variants.{NoSlot, Into}
 use Rattle.lines.specs.Texts.{mostBytes, structured}
-use Rattle.lines.specs.Bodies.{bodyOf, lineCode}
+use Rattle.lines.specs.Bodies.{bodyOf, lineFault, lineCode}
 use Rattle.lines.specs.Examples.{bytes}
 use Rattle.lines.specs.Lists.{HostList, slotText, commandsText, runText, writtenOf, allInRange, listFault, listCode, list, listOf}
 use Rattle.lines.proofs.ListLaws.{list-law, list-back, spelled-taken}
 use Rattle.lines.proofs.SpellLaws.{reads-spelled}
 use Rattle.lines.proofs.CodeLaws.{codes}
+use Rattle.lines.proofs.FaultLaws.{over-long}
 use Rattle.host.specs.declared.LineWritten.{LineWritten}
 use Rattle.host.specs.declared.LineWritten.the-variants.{Bytes, Refused, NoRoom}
-use Rattle.host.specs.Host.{hostList, codeOf, fitted, answerOf, codeIn, leftBy, LineIs}
+use Rattle.host.specs.Host.{hostList, codeOf, placeOf, faultOf, fitted, answerOf, codeIn, leftBy, LineIs}
 use Rattle.host.specs.Claims.{emptyList, k8List, slotList, PlainCommands, none, more, PlainSlot, without, into, SpellsPlainly, plainly, LineWrittenIs, LineRefusedIs, LineShortIs}
 use Rattle.host.proofs.LineLaws.{code-few, code-long}
 
@@ -40,7 +42,7 @@ module _ {l : HostList} {count : ℕ} {buffer after : List ℕ} {answer : LineWr
   pub answered : (P : LineWritten → List ℕ → Type 0)
       → (codeOf l count ≡ 0 → length (writtenOf l) ≤ length buffer → P (Bytes (length (writtenOf l))) (put buffer 0 (writtenOf l)))
       → (codeOf l count ≡ 0 → length buffer < length (writtenOf l) → P NoRoom buffer)
-      → ((codeOf l count ≡ 0 → ⊥) → P (Refused (codeOf l count)) buffer)
+      → ((codeOf l count ≡ 0 → ⊥) → P (Refused (faultOf l count)) buffer)
       → P answer after
   unfolding answerOf
   answered P w s r = rw (p .answers, p .leaves) (go (eqb (codeOf l count) 0) refl)
@@ -51,8 +53,8 @@ module _ {l : HostList} {count : ℕ} {buffer after : List ℕ} {answer : LineWr
       fit false e z = let h = leb-false (0 + length (writtenOf l)) (length buffer) e in s z (omega arith)
 
       go : (b : Bool) → eqb (codeOf l count) 0 ≡ b
-          → P (cond b (fitted buffer (length (writtenOf l))) (Refused (codeOf l count)))
-          (leftBy (cond b (fitted buffer (length (writtenOf l))) (Refused (codeOf l count))) l buffer)
+          → P (cond b (fitted buffer (length (writtenOf l))) (Refused (faultOf l count)))
+          (leftBy (cond b (fitted buffer (length (writtenOf l))) (Refused (faultOf l count))) l buffer)
       go true e = fit (room buffer 0 (length (writtenOf l))) refl (eqb-true (codeOf l count) 0 e)
       go false e = r (eqb-false (codeOf l count) 0 e)
 
@@ -117,17 +119,25 @@ module _ (l : HostList) (count : ℕ) (buffer : List ℕ) where
       (λ z e. let y : _≡_ {A = ℕ} 0 1 = cc in absurd (omega arith))
       refl
 
-  pub refused : {code : ℕ} {after : List ℕ} → LineIs l count buffer (Refused code) after → LineRefusedIs l count code buffer after
-  refused {code} p = answered p (λ a x. a ≡ Refused code → LineRefusedIs l count code buffer x)
+  pub refused : {f : Fault} {after : List ℕ} → LineIs l count buffer (Refused f) after → LineRefusedIs l count f buffer after
+  refused {f} p = answered p (λ a x. a ≡ Refused f → LineRefusedIs l count f buffer x)
       (λ z h e. let y : _≡_ {A = ℕ} 0 1 = cc in absurd (omega arith))
       (λ z h e. let y : _≡_ {A = ℕ} 0 1 = cc in absurd (omega arith))
-      (λ z e. let same : codeOf l count ≡ code = cc in record { its-code = sym same; a-fault = rw (← same) (fault-code l count z); unchanged = refl })
+      (λ z e. let same : faultOf l count ≡ f = cc in rw (← same) (record { its-code = refl; its-place = refl; a-fault = fault-code l count z; unchanged = refl }))
       refl
 
 -- ---- the code
 
 pub line-check : (l : HostList) (count : ℕ) → count ≤ mostBytes → codeOf l count ≡ lineCode (writtenOf l)
 line-check l count h = code-few l count h ∙ sym (list-law l)
+
+pub no-place : (l : HostList) (count : ℕ) → mostBytes < length (writtenOf l) → placeOf l count ≡ 0
+unfolding placeOf
+no-place l count h = rw (over-long (writtenOf l) h) (none (ltb mostBytes count))
+  where
+    none : (o : Bool) → _≡_ {A = ℕ} (cond o 0 0) 0
+    none true = refl
+    none false = refl
 
 -- each command has a byte at least
 commands-bytes : (cs : List Command) → length cs ≤ length (commandsText cs)

@@ -8,6 +8,7 @@ use lib.ListN.{length, getD, take, drop}
 use Rattle.digits.specs.Decimal.{decimal}
 use Rattle.digits.specs.ReadBack.{spelling}
 use Rattle.commands.specs.declared.Command.{Command}
+use Rattle.commands.specs.declared.Fault.{Fault}
 use Rattle.commands.specs.declared.Command.the-variants.{LoopBegin, LoopEnd, Skip, Jump, Plain}
 use Rattle.commands.specs.declared.Act.the-variants.{MoveTo, WaitInput}
 use Rattle.commands.specs.Table.{oneOf}
@@ -15,12 +16,12 @@ use Rattle.commands.specs.Writing.{spellingOf, zeroed}
 use Rattle.lines.specs.declared.Slot.{Slot}
 use Rattle.lines.specs.declared.Slot.the-variants.{NoSlot, Into}
 use Rattle.lines.specs.Texts.{mostBytes}
-use Rattle.lines.specs.Bodies.{lineCode}
+use Rattle.lines.specs.Bodies.{lineFault, lineCode}
 use Rattle.lines.specs.Examples.{bytes}
 use Rattle.lines.specs.Lists.{HostList, runText, writtenOf, listCode, list, listOf}
 use Rattle.host.specs.declared.LineWritten.{LineWritten}
 use Rattle.host.specs.declared.LineWritten.the-variants.{Bytes, Refused, NoRoom}
-use Rattle.host.specs.Host.{hostList, codeOf, codeIn, LineIs}
+use Rattle.host.specs.Host.{hostList, codeOf, placeOf, faultOf, codeIn, LineIs}
 
 -- "the empty list": no slot, no commands, no `R`
 abbrev pub emptyList : HostList
@@ -57,10 +58,11 @@ pub record LineWrittenIs (l : HostList) (count n : ℕ) (buffer after : List ℕ
   pub past-line : drop n after ≡ drop n buffer
   pub as-long : length after ≡ length buffer
 
--- refused with a code: that of the list, and "buffer unchanged"
-pub record LineRefusedIs (l : HostList) (count code : ℕ) (buffer after : List ℕ) : Type 0 where
-  pub its-code : code ≡ codeOf l count
-  pub a-fault : oneOf (2 ∷ 3 ∷ []) code ≡ true
+-- refused with a code and a place: those of the list, and "buffer unchanged"
+pub record LineRefusedIs (l : HostList) (count : ℕ) (f : Fault) (buffer after : List ℕ) : Type 0 where
+  pub its-code : f .code ≡ codeOf l count
+  pub its-place : f .place ≡ placeOf l count
+  pub a-fault : oneOf (2 ∷ 3 ∷ []) (f .code) ≡ true
   pub unchanged : after ≡ buffer
 
 -- "then buffer too short": nothing else is wrong, and "buffer unchanged"
@@ -73,8 +75,8 @@ pub record HostClaims : Type 0 where
   -- what each answer says: demand 2's reading back, slot, commands and `R` included, by the reading that a drive uses
   pub written : {l : HostList} {count n : ℕ} {buffer after : List ℕ} → LineIs l count buffer (Bytes n) after
       → LineWrittenIs l count n buffer after
-  pub refused : {l : HostList} {count code : ℕ} {buffer after : List ℕ} → LineIs l count buffer (Refused code) after
-      → LineRefusedIs l count code buffer after
+  pub refused : {l : HostList} {count : ℕ} {f : Fault} {buffer after : List ℕ} → LineIs l count buffer (Refused f) after
+      → LineRefusedIs l count f buffer after
   pub short : {l : HostList} {count : ℕ} {buffer after : List ℕ} → LineIs l count buffer NoRoom after
       → LineShortIs l count buffer after
   -- each answer comes wherever it may: a list that is taken and fits is written, one that is taken and does not fit is not
@@ -87,6 +89,9 @@ pub record HostClaims : Type 0 where
       → codeIn answer ≡ codeOf l count
   -- "list that the line check refuses": the code is the line check's, of the line as it is written
   pub line-check : (l : HostList) (count : ℕ) → count ≤ mostBytes → codeOf l count ≡ lineCode (writtenOf l)
+  -- 02, E6: so is the place; a line that passes 256 bytes has none
+  pub line-place : (l : HostList) (count : ℕ) → count ≤ mostBytes → faultOf l count ≡ lineFault (writtenOf l)
+  pub no-place : (l : HostList) (count : ℕ) → mostBytes < length (writtenOf l) → placeOf l count ≡ 0
   -- "or whose line passes 256 bytes": so does every list of more than 256 commands
   pub too-many : (l : HostList) → mostBytes < length (l .listed) → listCode l ≡ 2
   -- "an empty body reads as the empty list", and the empty list is written as the empty body

@@ -8,8 +8,11 @@ use lib.ListN.{length, take}
 use lib.Dec.{ltb, eqb}
 use Rattle.parts.specs.Parts.{room, put}
 use Rattle.commands.specs.declared.Command.{Command}
+use Rattle.commands.specs.declared.Fault.{Fault}
+use Rattle.commands.specs.Reading.{fault}
 use Rattle.lines.specs.declared.Slot.{Slot}
 use Rattle.lines.specs.Texts.{mostBytes}
+use Rattle.lines.specs.Bodies.{lineFault}
 use Rattle.lines.specs.Lists.{HostList, writtenOf, listCode}
 use Rattle.host.specs.declared.LineWritten.{LineWritten}
 use Rattle.host.specs.declared.LineWritten.the-variants.{Bytes, Refused, NoRoom}
@@ -22,24 +25,31 @@ hostList slot commands count run = record { slot = slot; listed = take count com
 unfoldable pub codeOf : HostList → ℕ → ℕ
 codeOf l count = cond (ltb mostBytes count) 2 (listCode l)
 
+-- 02, E6: the place of the fault, as the line check tells it of the line; "an overlong body has no place"
+unfoldable pub placeOf : HostList → ℕ → ℕ
+placeOf l count = cond (ltb mostBytes count) 0 (lineFault (writtenOf l) .place)
+
+abbrev pub faultOf : HostList → ℕ → Fault
+faultOf l count = fault (codeOf l count) (placeOf l count)
+
 -- "then buffer too short": so many bytes, or that there is no room for them
 abbrev pub fitted : List ℕ → ℕ → LineWritten
 fitted buffer n = cond (room buffer 0 n) (Bytes n) NoRoom
 
--- "that code, or named refusal"
+-- "that code, or named refusal"; with the code its place
 unfoldable pub answerOf : HostList → ℕ → List ℕ → LineWritten
-answerOf l count buffer = cond (eqb (codeOf l count) 0) (fitted buffer (length (writtenOf l))) (Refused (codeOf l count))
+answerOf l count buffer = cond (eqb (codeOf l count) 0) (fitted buffer (length (writtenOf l))) (Refused (faultOf l count))
 
 -- the code in each answer; "named refusal" is no code
 abbrev pub codeIn : LineWritten → ℕ
 codeIn (Bytes n) = 0
-codeIn (Refused code) = code
+codeIn (Refused f) = f .code
 codeIn NoRoom = 0
 
 -- what each answer leaves: the line at the front, bytes past it unchanged; else "buffer unchanged"
 abbrev pub leftBy : LineWritten → HostList → List ℕ → List ℕ
 leftBy (Bytes n) l buffer = put buffer 0 (writtenOf l)
-leftBy (Refused code) l buffer = buffer
+leftBy (Refused f) l buffer = buffer
 leftBy NoRoom l buffer = buffer
 
 -- the answer and the buffer after a list was to be written

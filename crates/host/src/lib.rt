@@ -6,14 +6,15 @@ ghost use Rattle.host.specs.Host.{hostList, LineIs};
 ghost use Rattle.host.specs.Adding.{AddedIs};
 ghost use Rattle.host.specs.Claims.{HostClaims};
 use commands::Command;
+use commands::Fault;
 use digits::Written;
 use lines::Slot;
 
 pub enum LineWritten {
     // So many bytes at the front of the buffer.
     Bytes(usize),
-    // The code that the line check gives to the line.
-    Refused(u8),
+    // The code that the line check gives to the line, and the place of the fault in it.
+    Refused(Fault),
     // The buffer is too short.
     NoRoom,
 }
@@ -32,15 +33,16 @@ pub fn write_line(
     ensures { λ r. ⌜ LineIs (hostList slot commands count run) count (now (buffer .entry)) r (now (buffer .exit)) ⌝ }
 {
     if LINE_BYTES < count {
-        return LineWritten::Refused(2);
+        return LineWritten::Refused(Fault { code: 2, place: 0 });
     }
     let mut line = [0u8; LINE_BYTES];
     let Written::Past(n) = make_line(slot, commands, count, run, &mut line) else {
-        return LineWritten::Refused(2);
+        return LineWritten::Refused(Fault { code: 2, place: 0 });
     };
-    let code = lines::check_line(&line[0..n]);
+    let fault = lines::check_line(&line[0..n]);
+    let code = fault.code;
     if code != 0 {
-        return LineWritten::Refused(code);
+        return LineWritten::Refused(fault);
     }
     if parts::put_at(buffer, 0, &line[0..n]) {
         return LineWritten::Bytes(n);

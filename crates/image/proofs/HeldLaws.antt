@@ -11,7 +11,7 @@ use borrow.Author.Tests.{leb-true}
 use Rattle.parts.specs.Parts.{padded}
 use Rattle.parts.proofs.Laws.{cases, take-padded}
 use Rattle.commands.specs.Reading.{readAt}
-use Rattle.lines.specs.Texts.{readingIn, readingFrom, structured, storedJudged, passed, mostBytes, textGood}
+use Rattle.lines.specs.Texts.{readingIn, readingFrom, faultPlaces, fifteenth, storedPlaces, storedJudged, passed, mostBytes, textGood}
 use Rattle.image.specs.Image.{imageBytes, slots, entryOf, bodyBytes, startIn, lengthIn, startOf, word, wordAt, bodyOf, zeros, slotGood, slotText, entryFor}
 use Rattle.image.specs.Claims.{Holds}
 use Rattle.image.proofs.SlotLaws.{and-left, good-rest, slot-judged, sound}
@@ -19,13 +19,13 @@ use Rattle.image.proofs.SlotLaws.{and-left, good-rest, slot-judged, sou
 -- ---- texts
 
 pub empty-good : textGood [] ≡ true
-unfolding textGood storedJudged readingFrom readingIn readAt structured
+unfolding textGood storedJudged readingFrom readingIn readAt faultPlaces fifteenth storedPlaces
 empty-good = refl
 
 -- a text that passes fits a body
 pub good-fits : (text : List ℕ) → textGood text ≡ true → length text ≤ bodyBytes
 unfolding textGood
-good-fits text h = leb-true (length text) mostBytes (and-left (leb (length text) mostBytes) (passed (storedJudged text)) h)
+good-fits text h = leb-true (length text) mostBytes (and-left (leb (length text) mostBytes) (passed (storedJudged true text)) h)
 
 -- what is read from a slot passes, and fits
 pub text-passes : (image : List ℕ) (k : ℕ) → textGood (slotText image k) ≡ true

@@ -1,3 +1,4 @@
+pub mod PlaceLaws
 pub mod TextLaws
 pub mod ScanLaws
 pub mod BodyLaws
@@ -7,3 +8,5 @@ pub mod ListLaws
 pub mod TakenLaws
 pub mod CodeLaws
 pub mod SpellLaws
+pub mod FaultLaws
+pub mod BeforeLaws

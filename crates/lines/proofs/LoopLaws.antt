@@ -2,7 +2,7 @@
 use Prim.Native.Nat.{ℕ, zero, suc, _+_, _-_, _≤_, _<_}
 use mathlib.Core.Path.{_≡_, refl, sym, _∙_}
 use mathlib.Core.List.{List, [], _∷_}
-use mathlib.Core.Bool.{Bool, true, false, cond, and-eq-true-iff}
+use mathlib.Core.Bool.{Bool, true, false, _&&_, and-eq-true-iff}
 use native.Mathlib.Omega.{arith}
 use lib.ListN.{length}
 use lib.Dec.{ltb}
@@ -11,36 +11,49 @@ use Rattle.commands.specs.declared.Command.{Command}
 use Rattle.commands.specs.declared.Command.the-variants.{LoopBegin, LoopEnd, Skip, Jump, Plain}
 use Rattle.commands.specs.declared.Read.{Read}
 use Rattle.commands.specs.declared.Read.the-variants.{At, Bad, End}
-use Rattle.commands.specs.Reading.{fault, readAt}
+use Rattle.commands.specs.Reading.{readAt}
 use Rattle.commands.proofs.ReadingLaws.{read-step}
-use Rattle.lines.specs.declared.Judged.the-variants.{Passes, Refused}
-use Rattle.lines.specs.Texts.{Reading, commands, faulty, before, goesOn, readingFrom, structured, skippable, judged, lineJudged, storable, storedJudged, mostOpen}
-use Rattle.lines.specs.Loops.{rest, after, Enclosed, start, next, scanTo, enclosing, Checked, Skippable, Lawful}
+use Rattle.lines.specs.declared.Judged.the-variants.{Passes}
+use Rattle.lines.specs.Texts.{Reading, commands, faulty, Placed, placed, unplaced, before, goesOn, readingFrom, structured, skippable, rest, faultPlaces, storedPlaces, refusedAt, judged, lineJudged, storable, storedJudged, mostOpen}
+use Rattle.lines.specs.Loops.{after, Enclosed, start, next, scanTo, enclosing, Checked, Skippable, Lawful}
+use Rattle.lines.proofs.PlaceLaws.{nowhere, nil-none, places-none, stored-none}
 use Rattle.lines.proofs.TextLaws.{reading-law}
 
 -- ---- what is left of a checked text at a place
 
 -- the text reads from here to its end, and its structure holds with so many loops open
 pub record Rest (t : List ℕ) (at depth : ℕ) : Type 0 where
-  pub left : List Command
+  pub left : List Placed
   pub reads : readingFrom t at ≡ commands left
-  pub holds : structured depth left ≡ true
+  pub holds : structured depth (unplaced left) ≡ true
 
-pub passes : (test : List Command → Bool) (r : Reading) → judged test r ≡ Passes → (cs : List Command) × (r ≡ commands cs) × (test cs ≡ true)
-passes test (commands cs) e = go (test cs) refl e
+-- what passes has no faulty place
+pub passes : (places : List Placed → List ℕ) (r : Reading) → judged places r ≡ Passes → (cs : List Placed) × (r ≡ commands cs) × (nowhere (places cs) ≡ true)
+passes places (commands cs) e = (cs, refl, go (places cs) e)
   where
-    go : (b : Bool) → test cs ≡ b → cond b Passes (Refused (fault 2)) ≡ Passes → (ds : List Command) × (commands cs ≡ commands ds) × (test ds ≡ true)
-    go true q k = (cs, refl, q)
-    go false q k = let z : _≡_ {A = ℕ} 0 1 = cc in absurd (omega arith)
-passes test (faulty f) e = let z : _≡_ {A = ℕ} 0 1 = cc in absurd (omega arith)
+    go : (ps : List ℕ) → refusedAt ps ≡ Passes → nowhere ps ≡ true
+    go [] k = refl
+    go (p ∷ ps) k = let z : _≡_ {A = ℕ} 0 1 = cc in absurd (omega arith)
+passes places (faulty f) e = let z : _≡_ {A = ℕ} 0 1 = cc in absurd (omega arith)
+
+-- a line's commands, a store's
+pub line-passes : (t : List ℕ) → lineJudged t ≡ Passes → (cs : List Placed) × (readingFrom t 0 ≡ commands cs) × (structured 0 (unplaced cs) ≡ true)
+unfolding lineJudged
+line-passes t e = let p = passes (faultPlaces []) (readingFrom t 0) e in (p .0, p .1, sym (places-none [] (p .0)) ∙ p .2)
+
+pub stored-passes : (run : Bool) (t : List ℕ) → storedJudged run t ≡ Passes → (cs : List Placed) × (readingFrom t 0 ≡ commands cs) × ((storable (unplaced cs) && run) ≡ true)
+unfolding storedJudged
+stored-passes run t e =
+    let p = passes (storedPlaces run (length t)) (readingFrom t 0) e in (p .0, p .1, sym (stored-none run (length t) (p .0)) ∙ p .2)
 
 -- "the check for stored text" is stricter than a line's
-pub stored-checked : (t : List ℕ) → storedJudged t ≡ Passes → Checked t
-unfolding lineJudged storedJudged
-stored-checked t e =
-    let p = passes storable (readingFrom t 0) e in
-    let h = and-eq-true-iff (structured 0 (p .0)) _ .0 (p .2) in
-    rw (p .1, h .0)
+pub stored-checked : (run : Bool) (t : List ℕ) → storedJudged run t ≡ Passes → Checked t
+unfolding lineJudged
+stored-checked run t e =
+    let p = stored-passes run t e in
+    let h = and-eq-true-iff (storable (unplaced (p .0))) run .0 (p .2) .0 in
+    let k = and-eq-true-iff (structured 0 (unplaced (p .0))) _ .0 h in
+    rw (p .1, nil-none (faultPlaces [] (p .0)) (places-none [] (p .0) ∙ k .0))
 
 -- how many loops are open behind a command
 abbrev deeper : Command → ℕ → ℕ
@@ -75,38 +88,39 @@ structure-next d (Jump m) cs e = (tt, e)
 structure-next d (Plain a) cs e = (tt, e)
 
 -- one command taken from what is left
-pub before-is : (c : Command) (r : Reading) (cs : List Command) → before c r ≡ commands cs → (ds : List Command) × (r ≡ commands ds) × (cs ≡ c ∷ ds)
+pub before-is : (c : Placed) (r : Reading) (cs : List Placed) → before c r ≡ commands cs → (ds : List Placed) × (r ≡ commands ds) × (cs ≡ c ∷ ds)
 before-is c (commands ds) cs e = let q : c ∷ ds ≡ cs = cc in (ds, refl, sym q)
 before-is c (faulty f) cs e = let z : _≡_ {A = ℕ} 0 1 = cc in absurd (omega arith)
 
 pub record Taken-from (t : List ℕ) (depth n : ℕ) (c : Command) : Type 0 where
-  pub more : List Command
+  pub more : List Placed
   pub reads : readingFrom t n ≡ commands more
-  pub allows : Allows depth c more
-  pub holds : structured (deeper c depth) more ≡ true
+  pub allows : Allows depth c (unplaced more)
+  pub holds : structured (deeper c depth) (unplaced more) ≡ true
 
 take-one : {t : List ℕ} {at depth : ℕ} {c : Command} {n : ℕ} → Rest t at depth → readAt t at ≡ At c n → Taken-from t depth n c
+unfolding unplaced
 take-one {t} {at} {depth} {c} {n} r e =
-    let p = before-is c (readingFrom t n) (r .left) (sym (reading-law t at ∙ rw e) ∙ r .reads) in
-    let h = structure-next depth c (p .0) (rw (p .2) at (r .holds)) in
+    let p = before-is (placed (at + 1) c) (readingFrom t n) (r .left) (sym (reading-law t at ∙ rw e) ∙ r .reads) in
+    let h = structure-next depth c (unplaced (p .0)) (rw (p .2) at (r .holds)) in
     record { more = p .0; reads = p .1; allows = h .0; holds = h .1 }
 
 pub rest-at : {t : List ℕ} {at : ℕ} {st : List ℕ} → Checked t → Enclosed t at st → Rest t at (length st)
-unfolding lineJudged
-rest-at {t} h start = let p = passes (structured 0) (readingFrom t 0) h in record { left = p .0; reads = p .1; holds = p .2 }
+rest-at {t} h start = let p = line-passes t h in record { left = p .0; reads = p .1; holds = p .2 }
 rest-at {t} h (next {at = a} {starts = s} c n p e) =
     let q = take-one (rest-at h p) e in
     record { left = q .more; reads = q .reads; holds = rw (deeper-after c n s) at (q .holds) }
 
 -- what may be skipped stands there
-skip-lawful : (t : List ℕ) (n : ℕ) (cs : List Command) → readingFrom t n ≡ commands cs → skippable cs ≡ true → Skippable (readAt t n)
+skip-lawful : (t : List ℕ) (n : ℕ) (cs : List Placed) → readingFrom t n ≡ commands cs → skippable (unplaced cs) ≡ true → Skippable (readAt t n)
+unfolding unplaced
 skip-lawful t n cs e s = go (readAt t n) (sym (reading-law t n) ∙ e) s
   where
     no : {A : Type 0} → false ≡ true → A
     no q = let z : _≡_ {A = ℕ} 0 1 = cc in absurd (omega arith)
 
-    with-one : (c : Command) (m : ℕ) (ds : List Command) → before c (readingFrom t m) ≡ commands ds → skippable ds ≡ true → Skippable (At c m)
-    with-one c m ds q k = let p = before-is c (readingFrom t m) ds q in kind c (p .0) (rw (p .2) at k)
+    with-one : (c : Command) (m : ℕ) (ds : List Placed) → before (placed (n + 1) c) (readingFrom t m) ≡ commands ds → skippable (unplaced ds) ≡ true → Skippable (At c m)
+    with-one c m ds q k = let p = before-is (placed (n + 1) c) (readingFrom t m) ds q in kind c (unplaced (p .0)) (rw (p .2) at k)
       where
         kind : (d : Command) (more : List Command) → skippable (d ∷ more) ≡ true → Skippable (At d m)
         kind LoopBegin more k = no k
@@ -115,14 +129,14 @@ skip-lawful t n cs e s = go (readAt t n) (sym (reading-law t n) ∙ e) s
         kind (Jump i) more k = tt
         kind (Plain a) more k = tt
 
-    go : (r : Read) → goesOn r (λ m. readingFrom t m) ≡ commands cs → skippable cs ≡ true → Skippable r
+    go : (r : Read) → goesOn n r (λ m. readingFrom t m) ≡ commands cs → skippable (unplaced cs) ≡ true → Skippable r
     go (At c m) q k = with-one c m cs q k
     go (Bad f) q k = let z : _≡_ {A = ℕ} 0 1 = cc in absurd (omega arith)
     go End q k = let w : cs ≡ [] = cc in no (rw w at k)
 
 -- every place that is reached is a command's or the end, and what stands there is lawful
 pub lawful : {t : List ℕ} {at : ℕ} {st : List ℕ} → Checked t → Enclosed t at st → Lawful t (length st) (readAt t at)
-unfolding structured
+unfolding structured unplaced
 lawful {t} {at} {st} h p = go (readAt t at) refl (rest-at h p)
   where
     kind : (c : Command) (n : ℕ) → Taken-from t (length st) n c → Lawful t (length st) (At c n)
@@ -132,7 +146,7 @@ lawful {t} {at} {st} h p = go (readAt t at) refl (rest-at h p)
     kind (Jump m) n q = tt
     kind (Plain a) n q = tt
 
-    ended : (cs : List Command) → commands [] ≡ commands cs → structured (length st) cs ≡ true → length st ≡ 0
+    ended : (cs : List Placed) → commands [] ≡ commands cs → structured (length st) (unplaced cs) ≡ true → length st ≡ 0
     ended [] e s = eqb-true (length st) 0 s
     ended (c ∷ cs) e s = let z : _≡_ {A = ℕ} 0 1 = cc in absurd (omega arith)
 

@@ -23,12 +23,12 @@ use Rattle.commands.proofs.WritingLaws.{spells-as}
 use Rattle.lines.specs.declared.Slot.the-variants.{NoSlot, Into}
 use Rattle.lines.specs.declared.Body.{Body}
 use Rattle.lines.specs.declared.Taken.{Taken}
-use Rattle.lines.specs.Texts.{commands, goesOn, readingFrom, structured, storable, lineJudged, storedJudged, mostBytes}
+use Rattle.lines.specs.Texts.{commands, Placed, placed, unplaced, goesOn, readingFrom, structured, mostBytes}
 use Rattle.lines.specs.Bodies.{Row, bodyOf, beginsImmediate, immediates, immediateIn, otherOf, endsWithR, lineOf, takenCode}
 use Rattle.lines.specs.Lists.{HostList, runText, allInRange, listFault, SpellsCommands, none, more, without, into, Spells, spells, list, listOf, takenList, bodyList}
 use Rattle.lines.specs.Claims.{Spelled, SpelledAs}
 use Rattle.lines.proofs.TextLaws.{reading-law}
-use Rattle.lines.proofs.LoopLaws.{passes, before-is}
+use Rattle.lines.proofs.LoopLaws.{line-passes, stored-passes, before-is}
 use Rattle.lines.proofs.CodeLaws.{Sound, read-sound, TakenCode, taken-code}
 use Rattle.lines.proofs.ListLaws.{spelled-taken}
 use Rattle.lines.proofs.TakenLaws.{no, textOf, text-run, line-tested, store-tested, store-bytes}
@@ -57,34 +57,35 @@ spelled-none s at e =
     let h : length s ≤ at = subst (λ (r : Read). Sound s at r) e (read-sound s at) in
     (rw (drop-of-length-le s h) none, refl)
 
-pub reading-spells : (cs : List Command) (s : List ℕ) (at : ℕ) → readingFrom s at ≡ commands cs → SpelledFrom cs s at
+pub reading-spells : (cs : List Placed) (s : List ℕ) (at : ℕ) → readingFrom s at ≡ commands cs → SpelledFrom (unplaced cs) s at
+unfolding unplaced
 reading-spells [] s at e = go (readAt s at) refl (sym (reading-law s at) ∙ e)
   where
-    go : (r : Read) → readAt s at ≡ r → goesOn r (λ n. readingFrom s n) ≡ commands [] → SpelledFrom [] s at
-    go (At c n) q k = let w = before-is c (readingFrom s n) [] k in let z : _≡_ {A = ℕ} 0 1 = cc (w .2) in no z
+    go : (r : Read) → readAt s at ≡ r → goesOn at r (λ n. readingFrom s n) ≡ commands [] → SpelledFrom [] s at
+    go (At c n) q k = let w = before-is (placed (at + 1) c) (readingFrom s n) [] k in let z : _≡_ {A = ℕ} 0 1 = cc (w .2) in no z
     go (Bad f) q k = no (cc)
     go End q k = spelled-none s at q
-reading-spells (c ∷ cs) s at e = go (readAt s at) refl (sym (reading-law s at) ∙ e) (λ n w. reading-spells cs s n w)
+reading-spells (placed p c ∷ cs) s at e = go (readAt s at) refl (sym (reading-law s at) ∙ e) (λ n w. reading-spells cs s n w)
   where
-    go : (r : Read) → readAt s at ≡ r → goesOn r (λ n. readingFrom s n) ≡ commands (c ∷ cs) → ((n : ℕ) → readingFrom s n ≡ commands cs → SpelledFrom cs s n)
-        → SpelledFrom (c ∷ cs) s at
+    go : (r : Read) → readAt s at ≡ r → goesOn at r (λ n. readingFrom s n) ≡ commands (placed p c ∷ cs) → ((n : ℕ) → readingFrom s n ≡ commands cs → SpelledFrom (unplaced cs) s n)
+        → SpelledFrom (c ∷ unplaced cs) s at
     go (At d n) q k rest =
-        let w = before-is d (readingFrom s n) (c ∷ cs) k in
-        let same : c ∷ cs ≡ d ∷ w .0 = w .2 in
+        let w = before-is (placed (at + 1) d) (readingFrom s n) (placed p c ∷ cs) k in
+        let same : placed p c ∷ cs ≡ placed (at + 1) d ∷ w .0 = w .2 in
         let x : c ≡ d = cc in
         let y : cs ≡ w .0 = cc in
         let reads : readingFrom s n ≡ commands cs = rw y (w .1) in
-        spelled-more s at c n cs (rw x q) (rest n reads)
+        spelled-more s at c n (unplaced cs) (rw x q) (rest n reads)
     go (Bad f) q k rest = no (cc)
     go End q k rest = no (cc)
 
 -- ---- a line, a store
 
-body-length : (b : List ℕ) → bodyOf b ≡ Body.Line → length b ≤ mostBytes
+pub body-length : (b : List ℕ) → bodyOf b ≡ Body.Line → length b ≤ mostBytes
 unfolding bodyOf
 body-length b e = go (ltb mostBytes (length b)) refl e
   where
-    go : (o : Bool) → ltb mostBytes (length b) ≡ o → cond o (Body.Refused (fault 2)) (cond (beginsImmediate b) (immediateIn immediates b) (otherOf b)) ≡ Body.Line
+    go : (o : Bool) → ltb mostBytes (length b) ≡ o → cond o (Body.Refused (fault 2 0)) (cond (beginsImmediate b) (immediateIn immediates b) (otherOf b)) ≡ Body.Line
         → length b ≤ mostBytes
     go true q k = no (cc)
     go false q k = ltb-false mostBytes (length b) q
@@ -93,33 +94,33 @@ spelled-as : (b : List ℕ) (l : HostList) → length b ≤ mostBytes → Spells
 spelled-as b l m w e = record { means = l; spelled = record { short = m; spells = w; no-fault = e }; reads = spelled-taken m w e .1 }
 
 line-spelled : (b : List ℕ) (n : ℕ) (r : Bool) → length b ≤ mostBytes → lineOf b ≡ Taken.Line n r → Spelled b
-unfolding lineOf lineJudged listFault
+unfolding lineOf listFault
 line-spelled b n r m e =
     let t : List ℕ = textOf b in
     let run : Bool = endsWithR b in
     let k = line-tested t run n r e in
-    let p = passes (structured 0) (readingFrom t 0) (k .passes) in
+    let p = line-passes t (k .passes) in
     let w = reading-spells (p .0) t 0 (p .1) in
     let bytes : t ++ runText run ≡ b = sym (text-run b) in
-    let l : HostList = record { slot = NoSlot; listed = p .0; run = run } in
+    let l : HostList = record { slot = NoSlot; listed = unplaced (p .0); run = run } in
     spelled-as b l m (subst (λ (x : List ℕ). Spells l x) bytes (spells run without (w .0))) (rw (w .1, p .2))
 
 store-spelled : (b : List ℕ) (slot at n : ℕ) → length b ≤ mostBytes → lineOf b ≡ Taken.Store slot at n → Spelled b
-unfolding lineOf storedJudged listFault
+unfolding lineOf listFault
 store-spelled b slot at n m e =
     let t : List ℕ = textOf b in
     let run : Bool = endsWithR b in
     let k = store-tested t run slot at n e in
     let past = number-past t 1 slot at (k .number) in
     let num = spelled t 1 slot at (k .number) in
-    let p = passes storable (readingFrom (drop at t) 0) (k .passes) in
+    let p = stored-passes run (drop at t) (k .passes) in
     let w = reading-spells (p .0) (drop at t) 0 (p .1) in
     let first : getD t 0 0 ≡ 115 = eqb-true (getD t 0 0) 115 (k .store) in
     let bytes = store-bytes b (spelling (num .zeros) slot) (drop at t) t (runText run) first (omega arith) (num .bytes) (text-run b) in
-    let l : HostList = record { slot = Into slot; listed = p .0; run = run } in
+    let l : HostList = record { slot = Into slot; listed = unplaced (p .0); run = run } in
     spelled-as b l m
     (subst (λ (x : List ℕ). Spells l x) bytes (spells run (into slot (num .zeros)) (w .0)))
-    (rw (k .in-range, w .1, p .2, k .runs))
+    (rw (k .in-range, w .1, p .2))
 
 -- a fault has a code, so what has none was taken
 pub taken-spelled : (b : List ℕ) → bodyOf b ≡ Body.Line → takenCode (lineOf b) ≡ 0 → Spelled b

@@ -20,12 +20,12 @@ use Rattle.lines.specs.declared.Body.{Body}
 use Rattle.lines.specs.declared.Taken.{Taken}
 use Rattle.lines.specs.declared.Judged.{Judged}
 use Rattle.lines.specs.declared.Judged.the-variants.{Passes, Refused}
-use Rattle.lines.specs.Texts.{lineJudged, storedJudged, passed, textGood, mostBytes}
-use Rattle.lines.specs.Bodies.{bodyOf, endsWithR, textEnd, taken, withR, mostSlot, storedAt, storeOf, takenOf, lineOf}
+use Rattle.lines.specs.Texts.{unplaced, storable, lineJudged, storedJudged, passed, textGood, mostBytes}
+use Rattle.lines.specs.Bodies.{bodyOf, endsWithR, textEnd, taken, behind, mostSlot, storedAt, storeOf, takenOf, lineOf}
 use Rattle.lines.specs.Lists.{runText}
 use Rattle.lines.specs.Loops.{Checked}
 use Rattle.lines.specs.Claims.{StoredFrom, TakenFrom}
-use Rattle.lines.proofs.LoopLaws.{stored-checked}
+use Rattle.lines.proofs.LoopLaws.{stored-passes, stored-checked}
 
 -- ---- a body is its text and `R` or none
 
@@ -62,7 +62,7 @@ pub record StoreTaken (t : List ℕ) (run : Bool) (slot at n : ℕ) : Type 0 whe
   pub store : eqb (getD t 0 0) 115 ≡ true
   pub number : operandAt t 1 ≡ Number slot at
   pub in-range : leb slot mostSlot ≡ true
-  pub passes : storedJudged (drop at t) ≡ Passes
+  pub passes : storedJudged run (drop at t) ≡ Passes
   pub runs : run ≡ true
   pub all : n ≡ length t - at
 
@@ -78,12 +78,14 @@ not-store : (j : Judged) (m : ℕ) (run : Bool) (slot at n : ℕ) → taken j (T
 not-store Passes m run slot at n e = cc
 not-store (Refused f) m run slot at n e = cc
 
-is-store : (run : Bool) (j : Judged) (slot at n slot′ at′ n′ : ℕ) → taken (withR run j) (Taken.Store slot′ at′ n′) ≡ Taken.Store slot at n
-    → (j ≡ Passes) × (run ≡ true) × (slot ≡ slot′) × (at ≡ at′) × (n ≡ n′)
-is-store true Passes slot at n slot′ at′ n′ e = (refl, refl, cc, cc, cc)
-is-store true (Refused f) slot at n slot′ at′ n′ e = no (cc)
-is-store false Passes slot at n slot′ at′ n′ e = no (cc)
-is-store false (Refused f) slot at n slot′ at′ n′ e = no (cc)
+is-store : (k : ℕ) (j : Judged) (slot at n slot′ at′ n′ : ℕ) → taken (behind k j) (Taken.Store slot′ at′ n′) ≡ Taken.Store slot at n
+    → (j ≡ Passes) × (slot ≡ slot′) × (at ≡ at′) × (n ≡ n′)
+is-store k Passes slot at n slot′ at′ n′ e = (refl, cc, cc, cc)
+is-store k (Refused f) slot at n slot′ at′ n′ e = no (cc)
+
+-- what passes as a store has its `R`
+runs : (run : Bool) (t : List ℕ) → storedJudged run t ≡ Passes → run ≡ true
+runs run t e = let p = stored-passes run t e in and-eq-true-iff (storable (unplaced (p .0))) run .0 (p .2) .1
 
 not-line : (j : Judged) (slot at m n : ℕ) (r : Bool) → taken j (Taken.Store slot at m) ≡ Taken.Line n r → _≡_ {A = ℕ} 0 1
 not-line Passes slot at m n r e = cc
@@ -98,8 +100,8 @@ line-tested t run n r e = go (eqb (getD t 0 0) 115) refl e
     store (Above next) k = cc
     store (Number slot at) k = slots (leb slot mostSlot) k
       where
-        slots : (b : Bool) → cond b (storedAt slot at t run) (Taken.Refused badOperand) ≡ Taken.Line n r → _≡_ {A = ℕ} 0 1
-        slots true k = not-line (withR run (storedJudged (drop at t))) slot at (length t - at) n r k
+        slots : (b : Bool) → cond b (storedAt slot at t run) (Taken.Refused (badOperand 1)) ≡ Taken.Line n r → _≡_ {A = ℕ} 0 1
+        slots true k = not-line (behind at (storedJudged run (drop at t))) slot at (length t - at) n r k
         slots false k = cc
 
     go : (b : Bool) → eqb (getD t 0 0) 115 ≡ b → cond b (storeOf (operandAt t 1) t run) (taken (lineJudged t) (Taken.Line (length t) run)) ≡ Taken.Line n r
@@ -116,16 +118,16 @@ store-tested t run slot at n e = go (eqb (getD t 0 0) 115) refl e
     store q (Above next) w k = no (cc)
     store q (Number slot′ at′) w k = slots (leb slot′ mostSlot) refl k
       where
-        slots : (b : Bool) → leb slot′ mostSlot ≡ b → cond b (storedAt slot′ at′ t run) (Taken.Refused badOperand) ≡ Taken.Store slot at n → StoreTaken t run slot at n
+        slots : (b : Bool) → leb slot′ mostSlot ≡ b → cond b (storedAt slot′ at′ t run) (Taken.Refused (badOperand 1)) ≡ Taken.Store slot at n → StoreTaken t run slot at n
         slots true h k =
-            let x = is-store run (storedJudged (drop at′ t)) slot at n slot′ at′ (length t - at′) k in
+            let x = is-store at′ (storedJudged run (drop at′ t)) slot at n slot′ at′ (length t - at′) k in
             record {
               store = q;
-              number = w ∙ rw (x .2, x .3);
-              in-range = rw (x .2) h;
-              passes = rw (x .3) (x .0);
-              runs = x .1;
-              all = rw (x .3) (x .4);
+              number = w ∙ rw (x .1, x .2);
+              in-range = rw (x .1) h;
+              passes = rw (x .2) (x .0);
+              runs = runs run (drop at′ t) (x .0);
+              all = rw (x .2) (x .3);
             }
         slots false h k = no (cc)
 
@@ -136,7 +138,7 @@ store-tested t run slot at n e = go (eqb (getD t 0 0) 115) refl e
 
 -- ---- what a line that is taken has
 
-text-length : (b : List ℕ) → length (textOf b) ≤ length b
+pub text-length : (b : List ℕ) → length (textOf b) ≤ length b
 text-length b = omega (arith, length-append (textOf b) (runText (endsWithR b)), ap length (text-run b))
 
 -- the bytes behind the slot are a part of the body
@@ -171,7 +173,7 @@ stored b slot at n e m =
     record {
       slot-most = leb-true slot mostSlot (k .in-range);
       inside = omega arith;
-      good = rw (same, le-leb (length (drop at t)) mostBytes short, k .passes);
+      good = rw (same, le-leb (length (drop at t)) mostBytes short, rw (k .runs) at (k .passes));
       zeros = w .zeros;
       whole = sym bytes ∙ ap (λ (x : List ℕ). 115 ∷ (spelling (w .zeros) slot ++ (x ++ runText (endsWithR b)))) (sym same)
           ∙ ap (λ (r : Bool). 115 ∷ (spelling (w .zeros) slot ++ (part b at n ++ runText r))) (k .runs);
@@ -179,7 +181,7 @@ stored b slot at n e m =
 
 pub text-checked : (t : List ℕ) → textGood t ≡ true → Checked t
 unfolding textGood
-text-checked t e = stored-checked t (go (storedJudged t) (and-eq-true-iff (leb (length t) mostBytes) (passed (storedJudged t)) .0 e .1))
+text-checked t e = stored-checked true t (go (storedJudged true t) (and-eq-true-iff (leb (length t) mostBytes) (passed (storedJudged true t)) .0 e .1))
   where
     go : (j : Judged) → passed j ≡ true → j ≡ Passes
     go Passes k = refl

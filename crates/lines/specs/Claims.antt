@@ -1,21 +1,23 @@
 -- What is claimed of lines: which are taken, said of lists of commands and not by reading bytes; and what a taken text has.
 -- 01, "Lines", "The host's list", "Structure". Assumes nothing.
-use Prim.Native.Nat.{ℕ, _+_, _≤_, _<_}
+use Prim.Native.Nat.{ℕ, _+_, _-_, _≤_, _<_}
 use mathlib.Core.List.{List, [], _∷_, _++_}
-use mathlib.Core.Bool.{Bool, true}
+use mathlib.Core.Bool.{Bool, true, false, cond, _&&_}
+use mathlib.Core.Logic.{_↔_}
 use mathlib.Core.Path.{_≡_}
-use lib.ListN.{length, take}
+use lib.ListN.{length, getD, take}
 use Rattle.parts.specs.Parts.{part}
 use Rattle.commands.specs.declared.Command.{Command}
 use Rattle.digits.specs.ReadBack.{spelling}
-use Rattle.commands.specs.declared.Read.the-variants.{At}
+use Rattle.commands.specs.declared.Read.the-variants.{At, Bad}
 use Rattle.commands.specs.Table.{oneOf}
-use Rattle.commands.specs.Reading.{readAt}
+use Rattle.commands.specs.declared.Fault.{Fault}
+use Rattle.commands.specs.Reading.{fault, badOperand, readAt}
 use Rattle.lines.specs.declared.Body.{Body}
 use Rattle.lines.specs.declared.Taken.{Taken}
-use Rattle.lines.specs.Texts.{goesOn, readingFrom, mostBytes, mostOpen, textGood}
-use Rattle.lines.specs.Bodies.{bodyOf, lineOf, mostSlot, takenCode, lineCode}
-use Rattle.lines.specs.Lists.{HostList, runText, writtenOf, listFault, listCode, list, listOf, Spells}
+use Rattle.lines.specs.Texts.{Placed, unplaced, goesOn, readingFrom, mostBytes, mostOpen, structured, storable, faultPlaces, storedPlaces, leftmost, textGood}
+use Rattle.lines.specs.Bodies.{bodyOf, textEnd, lineOf, mostSlot, takenCode, lineFault, lineCode}
+use Rattle.lines.specs.Lists.{HostList, runText, writtenOf, allInRange, slotInRange, shaped, listFault, listCode, list, listOf, Spells}
 use Rattle.lines.specs.Loops.{Enclosed, enclosing, Checked, Lawful}
 use Rattle.lines.specs.Examples.{examples, each, operands, judged}
 
@@ -47,6 +49,34 @@ pub record TakenFrom (b : List ℕ) (n : ℕ) (run : Bool) : Type 0 where
   -- the body is that text, "then optionally one `R`"
   pub whole : b ≡ take n b ++ runText run
 
+-- the least of some places
+pub record Leftmost (ps : List ℕ) (p : ℕ) : Type 0 where
+  pub there : oneOf ps p ≡ true
+  pub least : (q : ℕ) → oneOf ps q ≡ true → p ≤ q
+
+-- a body cut before a place, and run
+abbrev pub cutAt : ℕ → List ℕ → List ℕ
+cutAt p b = take (p - 1) b ++ (82 ∷ [])
+
+-- what stands before a place reads as commands without fault: cut there and run, the body is taken up to structure
+pub record ReadsBefore (b : List ℕ) (p : ℕ) : Type 0 where
+  pub means : HostList
+  pub spells : Spells means (cutAt p b)
+  pub in-range : (slotInRange (means .slot) && allInRange (means .listed)) ≡ true
+  pub taken : lineCode (cutAt p b) ≡ cond (shaped (means .slot) (means .listed) (means .run)) 0 2
+
+-- why a line is refused, and where: all of it reads and its structure is at fault; or a command of it is bad, told at its first byte;
+-- or the slot is, told at the `s`
+pub data Because (b : List ℕ) (f : Fault) : Type 0 where
+  by-structure : (l : HostList) → Spells l b → listFault l ≡ 2 → f .code ≡ 2 → Because b f
+  by-command : readAt (take (textEnd b) b) (f .place - 1) ≡ Bad f → ReadsBefore b (f .place) → Because b f
+  by-slot : getD b 0 0 ≡ 115 → f ≡ badOperand 1 → ReadsBefore b 1 → Because b f
+
+-- a fault at one of n bytes, or just behind them
+pub record PlacedIn (n : ℕ) (f : Fault) : Type 0 where
+  pub first : 1 ≤ f .place
+  pub last : f .place ≤ n + 1
+
 pub record LineClaims : Type 0 where
   -- every list, written as a body, gets the code of the list, by its length, its ranges and its structure
   pub list-code : (l : HostList) → lineCode (writtenOf l) ≡ listCode l
@@ -62,9 +92,21 @@ pub record LineClaims : Type 0 where
   -- "(2)", "(3)": there is no other code
   pub codes : (b : List ℕ) → oneOf (0 ∷ 2 ∷ 3 ∷ []) (lineCode b) ≡ true
   -- "the first fault from the left": a text read from a place is its command there, then the text read from behind it
-  pub from-the-left : (t : List ℕ) (at : ℕ) → readingFrom t at ≡ goesOn (readAt t at) (λ n. readingFrom t n)
+  pub from-the-left : (t : List ℕ) (at : ℕ) → readingFrom t at ≡ goesOn at (readAt t at) (λ n. readingFrom t n)
   -- a command ends within its text: with its spelling (`CommandAt`) that leaves one next place
   pub next-place : (t : List ℕ) (at : ℕ) (c : Command) (next : ℕ) → readAt t at ≡ At c next → (at < next) × (next ≤ length t)
+  -- 02, E6: there is a faulty place exactly where the structure is broken; of a store also its count and its `R`
+  pub no-place : (cs : List Placed) → (faultPlaces [] cs ≡ []) ↔ (structured 0 (unplaced cs) ≡ true)
+  pub no-place-stored : (run : Bool) (long : ℕ) (cs : List Placed) → (storedPlaces run long cs ≡ []) ↔ ((storable (unplaced cs) && run) ≡ true)
+  -- "the leftmost of"
+  pub the-leftmost : (p : ℕ) (ps : List ℕ) → oneOf (p ∷ ps) 0 ≡ false → Leftmost (p ∷ ps) (leftmost (p ∷ ps))
+  -- "counting body bytes from 1": what is refused, but for its length, has a place, and what is taken none; "an overlong body has no place"
+  pub place-there : (b : List ℕ) → length b ≤ mostBytes → (lineCode b ≡ 0 → ⊥) → PlacedIn (length b) (lineFault b)
+  pub place-none : (b : List ℕ) → lineCode b ≡ 0 → lineFault b .place ≡ 0
+  pub place-most : (b : List ℕ) → lineFault b .place ≤ mostBytes + 1
+  pub over-long : (b : List ℕ) → mostBytes < length b → lineFault b ≡ fault 2 0
+  -- a refused line has one of three reasons; what stands before a fault of the reading is good up to structure
+  pub because : (b : List ℕ) (f : Fault) → bodyOf b ≡ Body.Line → lineOf b ≡ Taken.Refused f → Because b f
   -- what is stored may be stored, and may run
   pub stored : (b : List ℕ) (slot at n : ℕ) → lineOf b ≡ Taken.Store slot at n → length b ≤ mostBytes
       → StoredFrom b slot at n

@@ -1,4 +1,5 @@
--- Bodies and the codes that an idle unit gives them, 0 where it takes them: K5 to K8 and K11 of 01, and edges around them.
+-- Bodies, the codes that an idle unit gives them, 0 where it takes them, and the places of their faults, 0 where there is none:
+-- K5 to K8 and K11 of 01, and edges around them.
 -- Assumes nothing.
 use Prim.Native.Nat.{ℕ}
 use Prim.Native.Char.{code}
@@ -7,7 +8,7 @@ use mathlib.Core.List.{List, [], _∷_, _++_}
 use mathlib.Core.Bool.{Bool, true, _&&_}
 use lib.ListN.{replicate}
 use lib.Dec.{eqb}
-use Rattle.lines.specs.Bodies.{lineCode}
+use Rattle.lines.specs.Bodies.{lineFault, lineCode}
 
 -- the bytes of a text
 unfoldable pub bytes : Text.String → List ℕ
@@ -17,58 +18,78 @@ bytes (Text._∷_ c s) = code c ∷ bytes s
 pub record Example : Type 0 where
   pub body : List ℕ
   pub gives : ℕ
+  pub place : ℕ
 
-abbrev pub example : List ℕ → ℕ → Example
-example b c = record { body = b; gives = c }
+abbrev pub example : List ℕ → ℕ → ℕ → Example
+example b c p = record { body = b; gives = c; place = p }
 
 unfoldable pub examples : List Example
 examples =
     -- K5
-    example (bytes "A2147483647R") 0
-    ∷ example (bytes "A2147483648R") 3
+    example (bytes "A2147483647R") 0 0
+    ∷ example (bytes "A2147483648R") 3 1
     -- "Reading digits into 32 bits and testing after: 4294967297 becomes 1"
-    ∷ example (bytes "A4294967297R") 3
+    ∷ example (bytes "A4294967297R") 3 1
     -- K6, K7: "at most four open", "each `G` closes the nearest open `g`"
-    ∷ example (bytes "ggggP1G2G2G2G2R") 0
-    ∷ example (bytes "gggggP1G2G2G2G2G2R") 2
-    ∷ example (bytes "G1R") 2
-    ∷ example (bytes "gP1R") 2
+    ∷ example (bytes "ggggP1G2G2G2G2R") 0 0
+    ∷ example (bytes "gggggP1G2G2G2G2G2R") 2 5
+    ∷ example (bytes "G1R") 2 1
+    ∷ example (bytes "gP1R") 2 1
     -- K8: "`S` is neither last nor directly before `g` or `G`"
-    ∷ example (bytes "gS03G2R") 2
-    ∷ example (bytes "gA0S03e0G0R") 0
-    ∷ example (bytes "S03R") 2
+    ∷ example (bytes "gS03G2R") 2 2
+    ∷ example (bytes "gA0S03e0G0R") 0 0
+    ∷ example (bytes "S03R") 2 1
     -- K11
-    ∷ example (bytes "j3R") 3
-    ∷ example (bytes "L0R") 3
-    ∷ example (bytes "V0R") 3
+    ∷ example (bytes "j3R") 3 1
+    ∷ example (bytes "L0R") 3 1
+    ∷ example (bytes "V0R") 3 1
     -- "`H013` gives 3 and `g5` gives 2"
-    ∷ example (bytes "H013R") 3
-    ∷ example (bytes "g5R") 2
+    ∷ example (bytes "H013R") 3 1
+    ∷ example (bytes "g5R") 2 2
     -- "then optionally one `R`"; "an `R`, `X` or `s` anywhere else is itself the misplaced letter"
-    ∷ example (bytes "A5") 0
-    ∷ example (bytes "RR") 2
-    ∷ example (bytes "A5RA6") 2
-    ∷ example (bytes "A5s3R") 2
-    ∷ example (bytes "XX") 2
+    ∷ example (bytes "A5") 0 0
+    ∷ example (bytes "RR") 2 1
+    ∷ example (bytes "A5RA6") 2 3
+    ∷ example (bytes "A5s3R") 2 3
+    ∷ example (bytes "XX") 2 1
     -- "the first fault from the left", "then structure"
-    ∷ example (bytes "G1A2147483648R") 3
-    ∷ example (bytes "xA2147483648R") 2
+    ∷ example (bytes "G1A2147483648R") 3 3
+    ∷ example (bytes "xA2147483648R") 2 1
     -- "`s` and a slot 0 to 15", "0 to 14 commands and a required `R`"
-    ∷ example (bytes "s3R") 0
-    ∷ example (bytes "s16R") 3
-    ∷ example (bytes "s3A5") 2
-    ∷ example (bytes "s0z0z0z0z0z0z0z0z0z0z0z0z0z0z0R") 0
-    ∷ example (bytes "s0z0z0z0z0z0z0z0z0z0z0z0z0z0z0z0R") 2
+    ∷ example (bytes "s3R") 0 0
+    ∷ example (bytes "s16R") 3 1
+    ∷ example (bytes "s3A5") 2 5
+    ∷ example (bytes "s0z0z0z0z0z0z0z0z0z0z0z0z0z0z0R") 0 0
+    ∷ example (bytes "s0z0z0z0z0z0z0z0z0z0z0z0z0z0z0z0R") 2 31
+    -- 02, E6: "the leftmost of"; "a fifth `g` (it still opens)"; "for a missing `R`, body length plus 1", here 257; a bad slot is told at the `s`
+    ∷ example (bytes "A1gA2") 2 3
+    ∷ example (bytes "gP1G2G3R") 2 6
+    ∷ example (bytes "A1gggggR") 2 3
+    ∷ example (bytes "gggggP1G1G1G1G1G1G1R") 2 5
+    ∷ example (bytes "gG1A1gP1S03R") 2 6
+    ∷ example (bytes "A1S03gP1G2G2R") 2 3
+    ∷ example (bytes "s12gA5") 2 4
+    ∷ example (bytes "s12G1x1") 2 6
+    ∷ example (bytes "sA5R") 3 1
+    ∷ example (115 ∷ replicate 255 48) 2 257
+    ∷ example (bytes "A1L0R") 3 3
+    ∷ example (bytes "A1G1R") 2 3
+    ∷ example (bytes "G1gP1R") 2 1
+    ∷ example (bytes "A1S03R") 2 3
+    ∷ example (bytes "gggggGGGGR") 2 1
+    ∷ example (bytes "ggA1S02G1R") 2 1
+    ∷ example (bytes "A1gL0R") 3 4
+    ∷ example (bytes "s0z0z0z0z0z0z0z0z0z0z0z0z0z0z0z0") 2 31
     -- "Immediate bodies"; "`R` alone", "`X` alone"; "an empty body acts as `Q`"
-    ∷ example (bytes "T5") 2
-    ∷ example (bytes "TR") 0
-    ∷ example (bytes "?1") 2
-    ∷ example (bytes "R") 0
-    ∷ example (bytes "X") 0
-    ∷ example [] 0
+    ∷ example (bytes "T5") 2 1
+    ∷ example (bytes "TR") 0 0
+    ∷ example (bytes "?1") 2 1
+    ∷ example (bytes "R") 0 0
+    ∷ example (bytes "X") 0 0
+    ∷ example [] 0 0
     -- "the body has 0 to 256 bytes", "leading zeros allowed"
-    ∷ example (65 ∷ (replicate 254 48 ++ bytes "R")) 0
-    ∷ example (65 ∷ (replicate 255 48 ++ bytes "R")) 2
+    ∷ example (65 ∷ (replicate 254 48 ++ bytes "R")) 0 0
+    ∷ example (65 ∷ (replicate 255 48 ++ bytes "R")) 2 0
     ∷ []
 
 -- ---- the table of commands, at its edges
@@ -120,7 +141,7 @@ unfoldable pub judged : List Operands → Bool
 judged [] = true
 judged (o ∷ os) = code-each 0 (o .before) (o .behind) (o .good) && code-each 3 (o .before) (o .behind) (o .bad) && judged os
 
--- each body gets its code
+-- each body gets its code and its place
 unfoldable pub each : List Example → Bool
 each [] = true
-each (e ∷ es) = eqb (lineCode (e .body)) (e .gives) && each es
+each (e ∷ es) = eqb (lineFault (e .body) .code) (e .gives) && (eqb (lineFault (e .body) .place) (e .place) && each es)

@@ -11,11 +11,7 @@ use Rattle.commands.specs.declared.Read.{Read}
 use Rattle.commands.specs.declared.Read.the-variants.{At, Bad, End}
 use Rattle.commands.specs.Reading.{readAt}
 use Rattle.lines.specs.declared.Judged.the-variants.{Passes}
-use Rattle.lines.specs.Texts.{lineJudged, mostOpen}
-
-abbrev pub rest : List ℕ → List ℕ
-rest [] = []
-rest (x ∷ xs) = xs
+use Rattle.lines.specs.Texts.{lineJudged, mostOpen, rest}
 
 -- the starts of the open loops, innermost first, behind a command whose next place is n: "each `G` closes the nearest open `g`"
 abbrev pub after : Command → ℕ → List ℕ → List ℕ

@@ -1,6 +1,6 @@
 -- What a body does: each kind of body is one of the deeds. Assumes nothing.
-use Prim.Native.Nat.{ℕ, _≤_, _<_}
-use mathlib.Core.Path.{_≡_, refl}
+use Prim.Native.Nat.{ℕ, zero, suc, _+_, _≤_, _<_}
+use mathlib.Core.Path.{_≡_, refl, ap}
 use mathlib.Core.List.{List, [], _∷_}
 use mathlib.Core.Bool.{true, false}
 use native.Mathlib.Omega.{arith}
@@ -9,6 +9,7 @@ use lib.Dec.{ltb}
 use lib.ListN.{length}
 use borrow.Author.Tests.{ltb-true, lt-ltb}
 use Rattle.parts.proofs.Laws.{cases}
+use Rattle.commands.specs.declared.Fault.{Fault}
 use Rattle.commands.specs.Reading.{fault}
 use Rattle.commands.proofs.TableLaws.{each, each-one}
 use Rattle.lines.specs.declared.Immediate.{Immediate}
@@ -16,8 +17,9 @@ use Rattle.lines.specs.declared.Immediate.the-variants.{Terminate, Status, Curr
 use Rattle.lines.specs.declared.Body.{Body}
 use Rattle.lines.specs.declared.Taken.{Taken}
 use Rattle.lines.specs.Texts.{mostBytes}
-use Rattle.lines.specs.Bodies.{bodyOf, lineOf, takenCode, bodyCode, lineCode}
+use Rattle.lines.specs.Bodies.{bodyOf, lineOf, takenFault, bodyFault, takenCode, bodyCode, lineFault, lineCode}
 use Rattle.lines.proofs.CodeLaws.{codes}
+use Rattle.lines.proofs.FaultLaws.{place-most}
 use Rattle.lines.proofs.TakenLaws.{held, stored}
 use Rattle.motor.specs.Motion.{waitsInput}
 use Rattle.motor.specs.Deeds.{codeValues}
@@ -25,7 +27,7 @@ use Rattle.turns.specs.declared.Core.{Core}
 use Rattle.obeying.specs.declared.Tell.{Tell}
 use Rattle.obeying.specs.declared.Obeyed.{Obeyed}
 use Rattle.obeying.specs.Obeying as obeying
-use Rattle.obeying.specs.Obeying.{busy, silent, immediateObeyed, lineObeyed, kindObeyed, bodyObeyed}
+use Rattle.obeying.specs.Obeying.{busy, placeTold, silent, immediateObeyed, lineObeyed, kindObeyed, bodyObeyed}
 use Rattle.obeying.specs.Deeds.{Tells, nothingTold, textTold, positionTold, speedTold, sampleTold, stepSizeTold, correctionTold, Obeys, refuses, tells, stores, clears}
 use Rattle.obeying.specs.Deeds.{stops, resumes, again, loads}
 
@@ -35,7 +37,7 @@ unfolding each
 line-code b = ltb-true (lineCode b) codeValues (each-one (λ (x : ℕ). ltb x codeValues) (0 ∷ 2 ∷ 3 ∷ []) (lineCode b) refl (codes b))
 
 -- a body that is read as a line is not over-long
-pub too-long : (b : List ℕ) → mostBytes < length b → bodyOf b ≡ Body.Refused (fault 2)
+pub too-long : (b : List ℕ) → mostBytes < length b → bodyOf b ≡ Body.Refused (fault 2 0)
 unfolding bodyOf
 too-long b l = rw (lt-ltb _ _ l)
 
@@ -45,12 +47,25 @@ line-short b e = go (decLt mostBytes (length b)) where
   go (yes l) = let t = too-long b l in let z : _≡_ {A = ℕ} 0 1 = cc in omega arith
   go (no m) = omega arith
 
+-- no fault is told past the 257th byte
+pub refused-place : (b : List ℕ) {f : Fault} → bodyOf b ≡ Body.Refused f → f .place ≤ mostBytes + 1
+unfolding lineFault
+refused-place b {f} e = rw e at (place-most b)
+
+pub line-place : (b : List ℕ) {f : Fault} → bodyOf b ≡ Body.Line → lineOf b ≡ Taken.Refused f → f .place ≤ mostBytes + 1
+unfolding lineFault
+line-place b {f} l e = rw (l, e) at (place-most b)
+
+pub place-told : (p : ℕ) → (p ≡ 0 → ⊥) → Tell.Number p ≡ placeTold p
+place-told zero n = absurd (n refl)
+place-told (suc p) n = refl
+
 module _ (body : List ℕ) (c : Core) where
   abbrev Deed : Obeyed → Type 0
   Deed o = Obeys body c o
 
   refusal : Deed (obeying.refused busy c)
-  refusal = refuses busy (omega arith)
+  refusal = refuses (fault busy 0) (omega arith) (omega arith)
 
   quiet : Deed (silent c)
   quiet = tells Tell.Nothing nothingTold
@@ -67,23 +82,23 @@ module _ (body : List ℕ) (c : Core) where
   immediate-does Clear e = clears
 
   -- "its commands, one or more, become the current text"
-  line-does : length body ≤ mostBytes → c .running ≡ false → (x : Taken) → lineOf body ≡ x → takenCode x < codeValues → Deed (lineObeyed x c)
-  line-does l r (Taken.Refused f) e k = refuses (f .code) k
+  line-does : bodyOf body ≡ Body.Line → c .running ≡ false → (x : Taken) → lineOf body ≡ x → takenCode x < codeValues → Deed (lineObeyed x c)
+  line-does l r (Taken.Refused f) e k = refuses f k (line-place body l e)
   line-does l r (Taken.Line n run) e k =
       let t = held body n run e in
-      loads run n r (record { inside = t .inside; short = l; checked = t .checked })
-  line-does l r (Taken.Store slot at n) e k = stores slot at n (stored body slot at n e l .inside) l
+      loads run n r (record { inside = t .inside; short = line-short body l; checked = t .checked })
+  line-does l r (Taken.Store slot at n) e k = let m = line-short body l in stores slot at n (stored body slot at n e m .inside) m
 
   kind-does : (b : Body) → bodyOf body ≡ b → bodyCode b body < codeValues → Deed (kindObeyed b body c)
-  kind-does (Body.Refused f) e k = refuses (f .code) k
+  kind-does (Body.Refused f) e k = refuses f k (refused-place body e)
   kind-does Body.Empty e k = quiet
   kind-does (Body.Immediate i) e k = immediate-does i e
   kind-does Body.Run e k =
       cases Deed (c .running) (λ r. cases Deed (waitsInput (c .motor .wait)) (λ w. resumes) (λ w. refusal))
       (λ r. cases (λ (d : Core). Deed (silent d)) (c .loaded) (λ q. again r) (λ q. quiet))
   kind-does Body.Again e k = cases Deed (c .running) (λ r. refusal) (λ r. again r)
-  kind-does Body.Line e k = cases Deed (c .running) (λ r. refusal) (λ r. line-does (line-short body e) r (lineOf body) refl k)
+  kind-does Body.Line e k = cases Deed (c .running) (λ r. refusal) (λ r. line-does e r (lineOf body) refl k)
 
   pub body-does : Deed (bodyObeyed body c)
-  unfolding bodyObeyed lineCode
+  unfolding bodyObeyed lineCode lineFault
   body-does = kind-does (bodyOf body) refl (line-code body)

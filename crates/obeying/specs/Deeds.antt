@@ -5,6 +5,7 @@ use mathlib.Core.Path.{_≡_}
 use mathlib.Core.List.{List}
 use mathlib.Core.Bool.{Bool, true, false}
 use lib.ListN.{length, take}
+use Rattle.commands.specs.declared.Fault.{Fault}
 use Rattle.lines.specs.Texts.{mostBytes}
 use Rattle.lines.specs.Loops.{Checked}
 use Rattle.lines.specs.Bodies.{bodyOf}
@@ -18,7 +19,7 @@ use Rattle.turns.specs.Turns.{withMotor, started, ended}
 use Rattle.obeying.specs.declared.Tell.{Tell}
 use Rattle.obeying.specs.declared.Write.{Write}
 use Rattle.obeying.specs.declared.Obeyed.{Obeyed}
-use Rattle.obeying.specs.Obeying.{stepSize, refused, telling, silent, writing, loadedFor, bodyObeyed}
+use Rattle.obeying.specs.Obeying.{stepSize, refusedAt, telling, silent, writing, loadedFor, bodyObeyed}
 
 -- what is told: nothing, the current text, or one of five numbers
 pub data Tells (c : Core) : Tell → Type 0 where
@@ -37,8 +38,8 @@ pub record Loads (body : List ℕ) (n : ℕ) : Type 0 where
   pub checked : Checked (take n body)
 
 pub data Obeys (body : List ℕ) (c : Core) : Obeyed → Type 0 where
-  -- "A refused frame carries its own code and no data"
-  refuses : (k : ℕ) → k < codeValues → Obeys body c (refused k c)
+  -- "A refused frame carries its own code", and the place of its fault, where it has one, as data
+  refuses : (f : Fault) → f .code < codeValues → f .place ≤ mostBytes + 1 → Obeys body c (refusedAt f c)
   tells : (tell : Tell) → Tells c tell → Obeys body c (telling tell c)
   -- a store of what lies within the body
   stores : (slot at n : ℕ) → at + n ≤ length body → length body ≤ mostBytes → Obeys body c (writing (Write.Store slot at n) c)

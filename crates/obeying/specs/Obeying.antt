@@ -1,11 +1,13 @@
 -- What a body makes of a unit, what is answered, and what is to be written to the image. 01, "Lines" and "What comes back".
 -- Assumes nothing.
-use Prim.Native.Nat.{ℕ, _^_, min}
+use Prim.Native.Nat.{ℕ, zero, suc, _^_, min}
 use mathlib.Core.List.{List, []}
 use mathlib.Core.Bool.{Bool, true, false, cond}
 use lib.ListN.{take}
 use Rattle.parts.specs.Parts.{part, paddedText}
 use Rattle.digits.specs.Decimal.{decimal}
+use Rattle.commands.specs.declared.Fault.{Fault}
+use Rattle.commands.specs.Reading.{fault}
 use Rattle.lines.specs.declared.Immediate.{Immediate}
 use Rattle.lines.specs.declared.Immediate.the-variants.{Terminate, Status, CurrentText, Position, Speed, Sample, StepSize, Correction, Clear}
 use Rattle.lines.specs.declared.Body.{Body}
@@ -38,9 +40,18 @@ dataOf Tell.Text n text = take n text
 abbrev pub obeyed : Core → ℕ → Tell → Write → Obeyed
 obeyed c code tell write = record { core = c; code = code; tell = tell; write = write }
 
--- "A refused frame carries its own code and no data"; "record beyond the receiver, and image, unchanged"
+-- 02, E6: "answers the place of the fault as decimal data"; where there is none, no data
+abbrev pub placeTold : ℕ → Tell
+placeTold zero = Tell.Nothing
+placeTold (suc p) = Tell.Number (suc p)
+
+-- "A refused frame carries its own code" and, by 02, E6, the place; "record beyond the receiver, and image, unchanged"
+abbrev pub refusedAt : Fault → Core → Obeyed
+refusedAt f c = obeyed c (f .code) (placeTold (f .place)) Write.Nothing
+
+-- a code without a place: "and no data"
 abbrev pub refused : ℕ → Core → Obeyed
-refused code c = obeyed c code Tell.Nothing Write.Nothing
+refused code c = refusedAt (fault code 0) c
 
 -- "all others carry the held code": with data, with none, or with something to be written
 abbrev pub telling : Tell → Core → Obeyed
@@ -99,7 +110,7 @@ loadedFor run n c = cond run (started n c) (loadedAs n c)
 
 -- "either way its commands .. become the current text"; a store "starts no run and leaves the current text"
 abbrev pub lineObeyed : Taken → Core → Obeyed
-lineObeyed (Taken.Refused f) c = refused (f .code) c
+lineObeyed (Taken.Refused f) c = refusedAt f c
 lineObeyed (Taken.Line n run) c = writing (Write.Text n) (loadedFor run n c)
 lineObeyed (Taken.Store slot at n) c = writing (Write.Store slot at n) c
 
@@ -108,7 +119,7 @@ abbrev pub lineOrBusy : List ℕ → Core → Obeyed
 lineOrBusy body c = cond (c .running) (refused busy c) (lineObeyed (lineOf body) c)
 
 abbrev pub kindObeyed : Body → List ℕ → Core → Obeyed
-kindObeyed (Body.Refused f) body c = refused (f .code) c
+kindObeyed (Body.Refused f) body c = refusedAt f c
 kindObeyed Body.Empty body c = silent c
 kindObeyed (Body.Immediate i) body c = immediateObeyed i c
 kindObeyed Body.Run body c = runObeyed c

@@ -1,9 +1,12 @@
 // What a body makes of a unit, and what is to be written: before any packet or image is. 01, "Lines" and "What comes back".
 ghost use mathlib.Core.Path.{_≡_};
+ghost use Prim.Native.Nat.{_≤_};
+ghost use Rattle.lines.specs.Bodies.{bodyOf};
 ghost use Rattle.turns.specs.Turns.{started};
-ghost use Rattle.obeying.specs.Obeying.{stepSize, refused, telling, writing, terminated, immediateObeyed};
+ghost use Rattle.obeying.specs.Obeying.{stepSize, placeTold, refusedAt, refused, telling, writing, terminated, immediateObeyed};
 ghost use Rattle.obeying.specs.Obeying.{resumed, runObeyed, againObeyed, loadedFor, lineOrBusy, bodyObeyed};
 ghost use Rattle.obeying.specs.Deeds.{BodiesDo};
+use commands::Fault;
 use lines::Body;
 use lines::Immediate;
 use lines::Taken;
@@ -45,7 +48,7 @@ pub fn obey(c: Core, body: &[u8]) -> Obeyed
 {
     let kind = lines::body_of(body);
     match kind {
-        Body::Refused(f) => refuse(c, f.code),
+        Body::Refused(f) => refuse_at(c, f),
         Body::Empty => hold(c, Tell::Nothing),
         Body::Immediate(i) => obey_immediate(c, i),
         Body::Run => obey_run(c),
@@ -54,7 +57,7 @@ pub fn obey(c: Core, body: &[u8]) -> Obeyed
     }
 }
 
-// A refused frame: its own code and no data.
+// A frame refused without a place: its own code and no data.
 fn refuse(c: Core, code: u8) -> Obeyed
     ensures { λ o. ⌜ o ≡ refused code c ⌝ }
 {
@@ -64,6 +67,30 @@ fn refuse(c: Core, code: u8) -> Obeyed
         tell: Tell::Nothing,
         write: Write::Nothing,
     }
+}
+
+// A refused body: its own code, and the place of its fault.
+fn refuse_at(c: Core, f: Fault) -> Obeyed
+    requires { ⌜ f .place ≤ 257 ⌝ }
+    ensures { λ o. ⌜ o ≡ refusedAt f c ⌝ }
+{
+    Obeyed {
+        core: c,
+        code: f.code,
+        tell: tell_place(f.place),
+        write: Write::Nothing,
+    }
+}
+
+// A place as data, 0 as none.
+fn tell_place(place: usize) -> Tell
+    requires { ⌜ place ≤ 257 ⌝ }
+    ensures { λ r. ⌜ r ≡ placeTold place ⌝ }
+{
+    if place == 0 {
+        return Tell::Nothing;
+    }
+    Tell::Number(place as u32)
 }
 
 // All others: the held code.
@@ -189,6 +216,7 @@ fn run_text(c: Core) -> Core
 
 // A line or a store, where the unit is idle.
 fn obey_line(c: Core, body: &[u8]) -> Obeyed
+    requires { ⌜ bodyOf (now body) ≡ Body.Line ⌝ }
     ensures { λ o. ⌜ o ≡ lineOrBusy (now (body .entry)) c ⌝ }
 {
     if c.running {
@@ -196,7 +224,7 @@ fn obey_line(c: Core, body: &[u8]) -> Obeyed
     }
     let line = lines::line_of(body);
     match line {
-        Taken::Refused(f) => refuse(c, f.code),
+        Taken::Refused(f) => refuse_at(c, f),
         Taken::Line { length, run } => hold_writing(load(c, length, run), Write::Text(length)),
         Taken::Store { slot, at, length } => hold_writing(
             c,

@@ -34,7 +34,7 @@ module _ (c : Core) (h : c .running ≡ true) where
   obeys-only : {body : List ℕ} {o : Obeyed} → Obeys body c o → o .core .running ≡ false
       → (bodyOf body ≡ Body.Immediate Terminate) × (o .core .code ≡ c .code)
   unfolding ended
-  obeys-only (refuses k l) q = clash h q
+  obeys-only (refuses f l p) q = clash h q
   obeys-only (tells t l) q = clash h q
   obeys-only (stores slot at n i l) q = clash h q
   obeys-only clears q = clash h q

@@ -73,7 +73,7 @@ does-fit h (ends k l q) = ended-fit k _ h (q (h .code))
 
 obeys-fit : {body : List ℕ} (text : List ℕ) {c : Core} {o : Obeyed} → FitIn text c → Obeys body c o → FitIn (textWritten (o .write) body text) (o .core)
 unfolding started loadedAs
-obeys-fit text h (refuses k l) = h
+obeys-fit text h (refuses f l p) = h
 obeys-fit text h (tells t l) = h
 obeys-fit text h (stores slot at n i l) = h
 obeys-fit text h clears = h

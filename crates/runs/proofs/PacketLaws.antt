@@ -1,5 +1,5 @@
 -- What a sound unit tells may be the data of a packet, so the packet that a feed call writes is read back. Assumes nothing.
-use Prim.Native.Nat.{ℕ, _≤_, _<_, min}
+use Prim.Native.Nat.{ℕ, zero, suc, _+_, _≤_, _<_, min}
 use mathlib.Core.Path.{_≡_, refl, sym, subst}
 use mathlib.Core.List.{List, [], _∷_}
 use mathlib.Core.Bool.{true, not, and-eq-true-iff}
@@ -21,8 +21,9 @@ use Rattle.turns.specs.declared.Core.{Core}
 use Rattle.turns.specs.Turns.{started, ended}
 use Rattle.drive.specs.Unit.{Drive}
 use Rattle.obeying.specs.declared.Obeyed.{Obeyed}
+use Rattle.lines.specs.Texts.{mostBytes}
 use Rattle.obeying.specs.declared.Tell.{Tell}
-use Rattle.obeying.specs.Obeying.{stepSize, dataOf, loadedAs, textWritten}
+use Rattle.obeying.specs.Obeying.{stepSize, dataOf, placeTold, loadedAs, textWritten}
 use Rattle.drive.specs.Calls.{answerTo, receivedBy, bodyBy, obeyedBy, textThen, feedOf}
 use Rattle.runs.specs.Packets.{Answers, answeredBy, toldBy, ReadIn, ReadBack}
 use Rattle.runs.proofs.SoundLaws.{Sound, SoundUnit}
@@ -70,9 +71,14 @@ module _ (c : Core) (text : List ℕ) (s : Sound (take (c .flow .length) text) c
   tells-good stepSizeTold = number-good (stepSize (c .settings .exponent)) (size-most (c .settings .exponent))
   tells-good correctionTold = number-good (c .settings .correction) (h .0 .settings .correction)
 
+  -- the place of a fault
+  place-good : (p : ℕ) → p ≤ mostBytes + 1 → goodData (dataOf (placeTold p) (c .flow .length) text) ≡ true
+  place-good zero l = nothing-good
+  place-good (suc p) l = number-good (suc p) (omega arith)
+
   obeys-told : {body : List ℕ} {o : Obeyed} → Obeys body c o → Tellable o (textWritten (o .write) body text)
   unfolding ended started loadedAs
-  obeys-told (refuses k l) = (nothing-good, l)
+  obeys-told (refuses f l p) = (place-good (f .place) p, l)
   obeys-told (tells t l) = (tells-good l, h .0 .code)
   obeys-told (stores slot at n i l) = (nothing-good, h .0 .code)
   obeys-told clears = (nothing-good, h .0 .code)

@@ -75,7 +75,7 @@ ended-sound k c h = record { flow = h .flow; motor = stopped-ok (h .motor); code
 
 obeys-sound : {body : List ℕ} (text : List ℕ) {c : Core} {o : Obeyed} → SoundIn text c → Obeys body c o → SoundIn (textWritten (o .write) body text) (o .core)
 unfolding ended started begun
-obeys-sound text h (refuses k l) = h
+obeys-sound text h (refuses f l p) = h
 obeys-sound text h (tells t l) = h
 obeys-sound text h (stores slot at n i l) = h
 obeys-sound text h clears = h

@@ -69,7 +69,7 @@ enters {i} {sample} {ms} {steps} {image} v h (takes n m r) =
 
 obeys-first : {body : List ℕ} {c : Core} {o : Obeyed} → c .running ≡ false → Obeys body c o → AtFirst (o .core)
 unfolding loadedAs
-obeys-first {c = c} h (refuses k l) = stopped-first c h
+obeys-first {c = c} h (refuses f l p) = stopped-first c h
 obeys-first {c = c} h (tells t l) = stopped-first c h
 obeys-first {c = c} h (stores slot at n i l) = stopped-first c h
 obeys-first {c = c} h clears = stopped-first c h

@@ -36,7 +36,7 @@ Same text c text′ c′ = (text′ ≡ text) × (c′ .flow ≡ c .flow)
 
 obeys-same : {body : List ℕ} (text : List ℕ) {c : Core} {o : Obeyed} → c .running ≡ true → Obeys body c o → Same text c (textWritten (o .write) body text) (o .core)
 unfolding ended
-obeys-same text h (refuses k l) = (refl, refl)
+obeys-same text h (refuses f l p) = (refl, refl)
 obeys-same text h (tells t l) = (refl, refl)
 obeys-same text h (stores slot at n i l) = (refl, refl)
 obeys-same text h clears = (refl, refl)

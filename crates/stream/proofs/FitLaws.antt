@@ -1,6 +1,6 @@
 -- A started unit is one that code can hold, and every byte and every turn keeps it so: no deed takes it away. What answers it fits the
 -- shortest buffer. Assumes nothing.
-use Prim.Native.Nat.{ℕ, _≤_, min}
+use Prim.Native.Nat.{ℕ, zero, suc, _+_, _≤_, min}
 use native.Mathlib.Nat.{pow-le-pow-right}
 use native.Mathlib.Omega.{arith}
 use mathlib.Core.Path.{_≡_, refl}
@@ -23,9 +23,10 @@ use Rattle.turns.specs.declared.setting.Settings.{Settings}
 use Rattle.turns.specs.declared.Stepped.{Stepped}
 use Rattle.turns.specs.Settings.{defaults}
 use Rattle.turns.specs.Turns.{freshCore, withMotor, started, ended, textAfter}
+use Rattle.lines.specs.Texts.{mostBytes}
 use Rattle.obeying.specs.declared.Tell.{Tell}
 use Rattle.obeying.specs.declared.Obeyed.{Obeyed}
-use Rattle.obeying.specs.Obeying.{stepSize, dataOf, loadedAs, textWritten}
+use Rattle.obeying.specs.Obeying.{stepSize, dataOf, placeTold, loadedAs, textWritten}
 use Rattle.drive.specs.Unit.{Drive}
 use Rattle.drive.proofs.AnswerLaws.{packet-fits}
 use Rattle.drive.proofs.FeedLaws.{frame-does}
@@ -94,7 +95,7 @@ fresh-fits = record {
 
 obeys-fits : {body : List ℕ} (text : List ℕ) {c : Core} {o : Obeyed} → FitsIn text c → Obeys body c o → FitsIn (textWritten (o .write) body text) (o .core)
 unfolding started loadedAs
-obeys-fits text f (refuses k l) = f
+obeys-fits text f (refuses x l p) = f
 obeys-fits text f (tells t l) = f
 obeys-fits text f (stores slot at n i l) = f
 obeys-fits text f clears = f
@@ -145,8 +146,12 @@ tells-fits f sampleTold = f .motor .sample
 tells-fits {c} f stepSizeTold = step-size-fits (c .settings .exponent)
 tells-fits f correctionTold = f .settings .correction
 
+place-fits : (p : ℕ) → p ≤ mostBytes + 1 → FitsTell (placeTold p)
+place-fits zero h = tt
+place-fits (suc p) h = omega arith
+
 told-fits : {body : List ℕ} {c : Core} {o : Obeyed} → FitsCore c → Obeys body c o → FitsTell (o .tell)
-told-fits f (refuses k l) = tt
+told-fits f (refuses x l p) = place-fits (x .place) p
 told-fits f (tells t l) = tells-fits f l
 told-fits f (stores slot at n i l) = tt
 told-fits f clears = tt

@@ -305,8 +305,10 @@ impl Bench {
 
     fn line(&mut self, field: &[u8], out: &mut Vec<u8>) -> Answered {
         read_hex(field, &mut self.bytes)?;
-        let code = line::check_idle(&self.bytes).map_or_else(|code| code as u8, |()| 0);
-        say!(out, "line {code}");
+        match line::check_idle(&self.bytes) {
+            Ok(()) => say!(out, "line 0"),
+            Err(fault) => say!(out, "line {fault}"),
+        }
         Ok(())
     }
 
@@ -321,7 +323,7 @@ impl Bench {
         read_hex(field, &mut self.bytes)?;
         match count::count(&self.bytes) {
             Ok(count) => say!(out, "count {count}"),
-            Err(Uncounted::Line(code)) => say!(out, "refused {}", code as u8),
+            Err(Uncounted::Line(fault)) => say!(out, "refused {fault}"),
             Err(Uncounted::Letter) => say!(out, "refused letter"),
             Err(Uncounted::Count) => say!(out, "refused count"),
         }
@@ -358,7 +360,7 @@ impl Bench {
                 out.extend(b"wrote ");
                 write_hex(&self.buffer[..length], out);
             }
-            Err(HostRefusal::Code(code)) => say!(out, "refused {}", code as u8),
+            Err(HostRefusal::Line(fault)) => say!(out, "refused {fault}"),
             Err(HostRefusal::Buffer) => say!(out, "refused buffer"),
         }
         Ok(())

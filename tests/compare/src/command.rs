@@ -116,18 +116,18 @@ impl Command {
 /// A fault of reading: "unknown or misplaced letter (2) or operand missing or
 /// out of range (3)".
 #[derive(Clone, Copy, Debug, PartialEq, Eq)]
-pub enum Fault {
+pub enum Misread {
     /// Unknown or misplaced letter.
     Letter,
     /// Operand missing or out of range.
     Operand,
 }
 
-impl From<Fault> for Code {
-    fn from(fault: Fault) -> Code {
-        match fault {
-            Fault::Letter => Code::Letter,
-            Fault::Operand => Code::Operand,
+impl From<Misread> for Code {
+    fn from(misread: Misread) -> Code {
+        match misread {
+            Misread::Letter => Code::Letter,
+            Misread::Operand => Code::Operand,
         }
     }
 }
@@ -135,9 +135,9 @@ impl From<Fault> for Code {
 /// Reads the first command of a text that is not empty: the command and what
 /// comes after it. `R`, `X` and `s` are no commands: where they are in place
 /// the line's reader has taken them.
-pub fn read(text: &[u8]) -> Result<(Command, &[u8]), Fault> {
+pub fn read(text: &[u8]) -> Result<(Command, &[u8]), Misread> {
     let Some((&letter, after)) = text.split_first() else {
-        return Err(Fault::Letter);
+        return Err(Misread::Letter);
     };
     if letter == b'g' {
         return Ok((Command::Open, after));
@@ -153,7 +153,7 @@ pub fn split_digits(text: &[u8]) -> (&[u8], &[u8]) {
 }
 
 /// The command that a letter and its digits make.
-fn with_operand(letter: u8, digits: &[u8]) -> Result<Command, Fault> {
+fn with_operand(letter: u8, digits: &[u8]) -> Result<Command, Misread> {
     let upto = |greatest| within(digits, 0, greatest);
     Ok(match letter {
         b'A' => Command::MoveTo(upto(FARTHEST)?),
@@ -175,23 +175,23 @@ fn with_operand(letter: u8, digits: &[u8]) -> Result<Command, Fault> {
         b'G' if digits.is_empty() => Command::Close(0),
         b'G' => Command::Close(upto(LONGEST)? as u16),
         b'H' if digits.is_empty() => Command::Await(Level::BARE),
-        b'H' => Command::Await(Level::read(digits).ok_or(Fault::Operand)?),
-        b'S' => Command::Skip(Level::read(digits).ok_or(Fault::Operand)?),
+        b'H' => Command::Await(Level::read(digits).ok_or(Misread::Operand)?),
+        b'S' => Command::Skip(Level::read(digits).ok_or(Misread::Operand)?),
         b'e' => Command::Execute(slot(digits)?),
-        _ => return Err(Fault::Letter),
+        _ => return Err(Misread::Letter),
     })
 }
 
 /// The number of a slot, "0 to 15".
-pub fn slot(digits: &[u8]) -> Result<u8, Fault> {
+pub fn slot(digits: &[u8]) -> Result<u8, Misread> {
     Ok(within(digits, 0, 15)? as u8)
 }
 
 /// "Other operands are required, decimal, leading zeros allowed."
-fn within(digits: &[u8], least: u32, greatest: u32) -> Result<u32, Fault> {
+fn within(digits: &[u8], least: u32, greatest: u32) -> Result<u32, Misread> {
     match number(digits) {
         Some(number) if (least..=greatest).contains(&number) => Ok(number),
-        _ => Err(Fault::Operand),
+        _ => Err(Misread::Operand),
     }
 }
 
@@ -203,18 +203,18 @@ fn number(digits: &[u8]) -> Option<u32> {
 }
 
 /// "a number with exactly one bit set, at most 256"
-fn exponent(number: u32) -> Result<u8, Fault> {
+fn exponent(number: u32) -> Result<u8, Misread> {
     if number.count_ones() != 1 {
-        return Err(Fault::Operand);
+        return Err(Misread::Operand);
     }
     Ok(number.trailing_zeros() as u8)
 }
 
 /// "9600, 19200, 38400"
-fn rate(number: u32) -> Result<u16, Fault> {
+fn rate(number: u32) -> Result<u16, Misread> {
     match number {
         9_600 | 19_200 | 38_400 => Ok(number as u16),
-        _ => Err(Fault::Operand),
+        _ => Err(Misread::Operand),
     }
 }
 
@@ -223,7 +223,7 @@ mod tests {
     use super::*;
 
     /// The whole text as one command.
-    fn one(text: &str) -> Result<Command, Fault> {
+    fn one(text: &str) -> Result<Command, Misread> {
         let (command, rest) = read(text.as_bytes())?;
         assert!(rest.is_empty(), "{text}");
         assert_eq!(command.letter(), text.as_bytes()[0]);
@@ -239,13 +239,13 @@ mod tests {
     }
 
     fn refuses(letter: char, numbers: &[u64]) {
-        assert_eq!(one(&letter.to_string()), Err(Fault::Operand), "{letter}");
+        assert_eq!(one(&letter.to_string()), Err(Misread::Operand), "{letter}");
         for number in numbers {
             let text = format!("{letter}{number}");
-            assert_eq!(one(&text), Err(Fault::Operand), "{text}");
+            assert_eq!(one(&text), Err(Misread::Operand), "{text}");
         }
         for long in ["4294967296", "4294967297", "18446744073709551617"] {
-            assert_eq!(one(&format!("{letter}{long}")), Err(Fault::Operand));
+            assert_eq!(one(&format!("{letter}{long}")), Err(Misread::Operand));
         }
     }
 
@@ -326,7 +326,7 @@ mod tests {
     fn row_open() {
         assert_eq!(one("g"), Ok(Command::Open));
         assert_eq!(read(b"g5"), Ok((Command::Open, &b"5"[..])));
-        assert_eq!(read(b"5"), Err(Fault::Letter));
+        assert_eq!(read(b"5"), Err(Misread::Letter));
     }
 
     #[test]
@@ -334,7 +334,7 @@ mod tests {
         assert_eq!(one("G"), Ok(Command::Close(0)));
         assert_eq!(one("G0"), Ok(Command::Close(0)));
         assert_eq!(one("G030000"), Ok(Command::Close(30_000)));
-        assert_eq!(one("G30001"), Err(Fault::Operand));
+        assert_eq!(one("G30001"), Err(Misread::Operand));
     }
 
     #[test]
@@ -352,9 +352,9 @@ mod tests {
         assert_eq!(taken, 8);
         assert_eq!(one("H"), one("H02"));
         assert_eq!(one("H14"), Ok(Command::Await(Level { high: true, bit: 8 })));
-        assert_eq!(one("S"), Err(Fault::Operand));
+        assert_eq!(one("S"), Err(Misread::Operand));
         for text in ["H013", "H1", "H001", "S2", "S002"] {
-            assert_eq!(one(text), Err(Fault::Operand));
+            assert_eq!(one(text), Err(Misread::Operand));
         }
     }
 
@@ -367,8 +367,8 @@ mod tests {
     #[test]
     fn all_other_letters() {
         for letter in (0..=255u8).filter(|byte| !b"APDzZVLfFmhjoJbMgGHSe".contains(byte)) {
-            assert_eq!(read(&[letter, b'1']), Err(Fault::Letter));
+            assert_eq!(read(&[letter, b'1']), Err(Misread::Letter));
         }
-        assert_eq!(read(b""), Err(Fault::Letter));
+        assert_eq!(read(b""), Err(Misread::Letter));
     }
 }

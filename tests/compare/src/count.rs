@@ -1,14 +1,14 @@
 //! How many commands a run takes when nothing stops it: paper 02, E14.
 
 use crate::command::{self, Command};
+use crate::fault::Fault;
 use crate::line::{self, Body, Drive};
-use crate::Code;
 
 /// Why no count is told, "by name".
 #[derive(Clone, Copy, Debug, PartialEq, Eq)]
 pub enum Uncounted {
-    /// "the line check's code"
-    Line(Code),
+    /// "the line check's code", with E6's place
+    Line(Fault),
     /// "then a letter from that list"
     Letter,
     /// "then a count over 2^63 − 1"
@@ -61,6 +61,7 @@ fn cost(commands: &mut impl Iterator<Item = Command>) -> (u128, u16) {
 #[cfg(test)]
 mod tests {
     use super::*;
+    use crate::Code;
 
     #[test]
     fn the_papers_example() {
@@ -77,7 +78,7 @@ mod tests {
 
     #[test]
     fn refusals_in_order() {
-        assert_eq!(count(b"P0A2147483648R"), Err(Uncounted::Line(Code::Operand)));
+        assert_eq!(count(b"P0A2147483648R"), Err(Uncounted::Line(Fault::after(2, Code::Operand))));
         let over = "A1".repeat(11);
         let over = format!("gggg{over}G30000G30000G30000G30000");
         assert_eq!(count(format!("{over}H").as_bytes()), Err(Uncounted::Letter));

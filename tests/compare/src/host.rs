@@ -1,6 +1,7 @@
 //! The host's side: "writing a line from a list of commands".
 
 use crate::decimal::Decimal;
+use crate::fault::Fault;
 use crate::line::check_idle;
 use crate::{Code, BODY};
 
@@ -23,8 +24,9 @@ impl Item {
 /// Why a line is not written.
 #[derive(Clone, Copy, Debug, PartialEq, Eq)]
 pub enum HostRefusal {
-    /// "list that the line check refuses or whose line passes 256 bytes"
-    Code(Code),
+    /// "list that the line check refuses or whose line passes 256 bytes"; the
+    /// place is that in the line.
+    Line(Fault),
     /// "then buffer too short"
     Buffer,
 }
@@ -32,9 +34,9 @@ pub enum HostRefusal {
 /// Writes "a slot or none, commands, and `R` or none [..] as a body alone":
 /// how many bytes. A refusal leaves the buffer unchanged.
 pub fn write(slot: Option<u32>, list: &[Item], run: bool, buffer: &mut [u8]) -> Result<usize, HostRefusal> {
-    let body = Draft::of(slot, list, run).ok_or(HostRefusal::Code(Code::Letter))?;
+    let body = Draft::of(slot, list, run).ok_or(HostRefusal::Line(Fault::nowhere(Code::Letter)))?;
     let body = body.bytes();
-    check_idle(body).map_err(HostRefusal::Code)?;
+    check_idle(body).map_err(HostRefusal::Line)?;
     let Some(place) = buffer.get_mut(..body.len()) else {
         return Err(HostRefusal::Buffer);
     };
@@ -104,8 +106,8 @@ mod tests {
         Ok(String::from_utf8(buffer[..length].to_vec()).unwrap())
     }
 
-    fn refused<T>(code: Code) -> Result<T, HostRefusal> {
-        Err(HostRefusal::Code(code))
+    fn refused<T>(before: usize, code: Code) -> Result<T, HostRefusal> {
+        Err(HostRefusal::Line(Fault::after(before, code)))
     }
 
     #[test]
@@ -120,16 +122,16 @@ mod tests {
 
     #[test]
     fn refusals() {
-        assert_eq!(written(Some(16), &[], true), refused(Code::Operand));
-        assert_eq!(written(Some(u32::MAX), &[], true), refused(Code::Operand));
-        assert_eq!(written(Some(1), &[], false), refused(Code::Letter));
-        assert_eq!(written(None, &[('A', 2_147_483_648)], true), refused(Code::Operand));
-        assert_eq!(written(None, &[('A', 5), ('g', 0)], true), refused(Code::Letter));
-        assert_eq!(written(None, &[('g', 0), ('L', 0)], true), refused(Code::Operand));
-        assert_eq!(written(Some(1), &[('H', 2); 15], true), refused(Code::Letter));
-        assert_eq!(written(None, &[('H', 5)], true), refused(Code::Operand));
-        assert_eq!(written(None, &[('H', 99)], true), refused(Code::Operand));
-        assert_eq!(written(None, &[('H', 100)], true), refused(Code::Operand));
+        assert_eq!(written(Some(16), &[], true), refused(0, Code::Operand));
+        assert_eq!(written(Some(u32::MAX), &[], true), refused(0, Code::Operand));
+        assert_eq!(written(Some(1), &[], false), refused(2, Code::Letter));
+        assert_eq!(written(None, &[('A', 2_147_483_648)], true), refused(0, Code::Operand));
+        assert_eq!(written(None, &[('A', 5), ('g', 0)], true), refused(2, Code::Letter));
+        assert_eq!(written(None, &[('g', 0), ('L', 0)], true), refused(1, Code::Operand));
+        assert_eq!(written(Some(1), &[('H', 2); 15], true), refused(44, Code::Letter));
+        assert_eq!(written(None, &[('H', 5)], true), refused(0, Code::Operand));
+        assert_eq!(written(None, &[('H', 99)], true), refused(0, Code::Operand));
+        assert_eq!(written(None, &[('H', 100)], true), refused(0, Code::Operand));
         assert_eq!(Item::new(b'R', 0), None);
         assert_eq!(Item::new(b's', 0), None);
     }
@@ -139,9 +141,9 @@ mod tests {
         let mut list = vec![('H', 2); 85];
         assert_eq!(written(None, &list, true).unwrap().len(), 256);
         list[0].1 = 5;
-        assert_eq!(written(None, &list, true), refused(Code::Operand));
+        assert_eq!(written(None, &list, true), refused(0, Code::Operand));
         list.push(('g', 0));
-        assert_eq!(written(None, &list, true), refused(Code::Letter));
+        assert_eq!(written(None, &list, true), Err(HostRefusal::Line(Fault::nowhere(Code::Letter))));
     }
 
     #[test]
@@ -149,7 +151,7 @@ mod tests {
         let list = [item(('A', 5))];
         let mut buffer = *b"zz";
         assert_eq!(write(None, &list, true, &mut buffer), Err(HostRefusal::Buffer));
-        assert_eq!(write(Some(16), &list, true, &mut buffer), refused(Code::Operand));
+        assert_eq!(write(Some(16), &list, true, &mut buffer), refused(0, Code::Operand));
         assert_eq!(&buffer, b"zz");
         let mut buffer = *b"zzzz";
         assert_eq!(write(None, &list, true, &mut buffer), Ok(3));

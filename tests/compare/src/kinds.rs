@@ -4,6 +4,7 @@
 use std::collections::BTreeMap;
 
 use crate::bench::Bench;
+use crate::causes;
 use crate::turn::{Leg, Wait};
 use crate::unit::Unit;
 use crate::Code;
@@ -28,7 +29,8 @@ const ANSWERS: &[&str] = &[
     "feed: idle 1",
     "feed: idle 1 with data",
     "feed: idle 2",
-    "feed: idle 3",
+    "feed: idle 2 with data",
+    "feed: idle 3 with data",
     "feed: idle 7",
     "feed: idle 7 with data",
     "feed: idle 11",
@@ -36,6 +38,7 @@ const ANSWERS: &[&str] = &[
     "feed: busy 0",
     "feed: busy 0 with data",
     "feed: busy 2",
+    "feed: busy 2 with data",
     "feed: busy 15",
     "typed: no unit",
     "typed: refused buffer",
@@ -46,7 +49,8 @@ const ANSWERS: &[&str] = &[
     "typed: idle 1",
     "typed: idle 1 with data",
     "typed: idle 2",
-    "typed: idle 3",
+    "typed: idle 2 with data",
+    "typed: idle 3 with data",
     "typed: idle 7",
     "typed: idle 7 with data",
     "typed: idle 11",
@@ -54,13 +58,15 @@ const ANSWERS: &[&str] = &[
     "typed: busy 0",
     "typed: busy 0 with data",
     "typed: busy 2",
+    "typed: busy 2 with data",
     "typed: busy 15",
     "feed: oem idle 0",
     "feed: oem idle 0 with data",
     "feed: oem idle 1",
     "feed: oem idle 1 with data",
     "feed: oem idle 2",
-    "feed: oem idle 3",
+    "feed: oem idle 2 with data",
+    "feed: oem idle 3 with data",
     "feed: oem idle 7",
     "feed: oem idle 7 with data",
     "feed: oem idle 11",
@@ -68,6 +74,7 @@ const ANSWERS: &[&str] = &[
     "feed: oem busy 0",
     "feed: oem busy 0 with data",
     "feed: oem busy 2",
+    "feed: oem busy 2 with data",
     "feed: oem busy 15",
     "oem: no unit",
     "oem: refused buffer",
@@ -78,7 +85,8 @@ const ANSWERS: &[&str] = &[
     "oem: idle 1",
     "oem: idle 1 with data",
     "oem: idle 2",
-    "oem: idle 3",
+    "oem: idle 2 with data",
+    "oem: idle 3 with data",
     "oem: idle 7",
     "oem: idle 7 with data",
     "oem: idle 11",
@@ -86,6 +94,7 @@ const ANSWERS: &[&str] = &[
     "oem: busy 0",
     "oem: busy 0 with data",
     "oem: busy 2",
+    "oem: busy 2 with data",
     "oem: busy 15",
     "turn: no unit",
     "turn: refused image-length",
@@ -121,14 +130,16 @@ const ANSWERS: &[&str] = &[
     "store: another length",
     "line: 0",
     "line: 2",
-    "line: 3",
+    "line: 2 with a place",
+    "line: 3 with a place",
     "text: ok",
     "text: bad",
     "count: 0",
     "count: some",
     "count: over 32 bits",
     "count: refused 2",
-    "count: refused 3",
+    "count: refused 2 with a place",
+    "count: refused 3 with a place",
     "count: refused letter",
     "count: refused count",
     "ramp: finite",
@@ -139,7 +150,8 @@ const ANSWERS: &[&str] = &[
     "write: wrote",
     "write: wrote nothing",
     "write: refused 2",
-    "write: refused 3",
+    "write: refused 2 with a place",
+    "write: refused 3 with a place",
     "write: refused buffer",
     "read: packet",
     "read: packet with data",
@@ -224,7 +236,9 @@ pub fn all() -> Vec<String> {
     let unreadable = WORDS.iter().map(|word| format!("{word}: ?"));
     let answers = ANSWERS.iter().map(|name| name.to_string());
     let events = EVENTS.iter().map(|name| format!("event: {name}"));
-    answers.chain(unreadable).chain(events).collect()
+    let faults =
+        ["line", "frame"].iter().flat_map(|word| causes::NAMES.iter().map(move |name| fault(word, name)));
+    answers.chain(unreadable).chain(events).chain(faults).collect()
 }
 
 /// The kind of an operation and its answer, as [`all`] names it.
@@ -270,6 +284,8 @@ fn short(word: &str, operation: &str, answer: &str) -> String {
         ("turn", ["act", way, ..]) => format!("act {way}"),
         ("unit", ["unit", state, ..]) => state.to_string(),
         ("line" | "text", [_, judged]) => judged.to_string(),
+        ("line", [_, code, _]) => format!("{code} with a place"),
+        ("count" | "write", ["refused", code, _]) => format!("refused {code} with a place"),
         ("count", ["count", "0"]) => "0".to_string(),
         ("count", ["count", n]) => if n.len() > 10 { "over 32 bits" } else { "some" }.to_string(),
         ("ramp", ["ramp", ..]) => {
@@ -298,6 +314,24 @@ fn packet_kind(hex: &str) -> String {
     let (framing, empty) = if hex.starts_with("02") { ("oem ", 10) } else { ("", 12) };
     let data = if hex.len() > empty { " with data" } else { "" };
     format!("{framing}{state} {}{data}", status & 15)
+}
+
+/// The kind of a refused body, from `line` or a frame.
+fn fault(word: &str, name: &str) -> String {
+    format!("fault: {word}: {name}")
+}
+
+/// The kinds of what an idle unit refuses a body for, as [`all`] names them,
+/// where the kind of the answer tells that it does.
+pub fn of_fault(operation: &[u8], kind: &str) -> Vec<String> {
+    let operation = operation.strip_suffix(b"\r").unwrap_or(operation);
+    let refused = ["idle 2", "idle 3", "line: 2", "line: 3"].iter().any(|part| kind.contains(part));
+    match causes::body_of(operation) {
+        Some((word, body)) if refused => {
+            causes::names(&body).into_iter().map(|name| fault(word, name)).collect()
+        }
+        _ => Vec::new(),
+    }
 }
 
 /// What a unit is at.
@@ -522,6 +556,10 @@ mod tests {
             ("feed 2f310d", "fed 3 2f306b30030d0a", "feed: idle 11 with data"),
             ("/1?0", "idle 0 12", "typed: idle 0 with data"),
             ("/1?0", "busy 2", "typed: busy 2"),
+            ("/1?1", "busy 2 1", "typed: busy 2 with data"),
+            ("line 41", "line 3 1", "line: 3 with a place"),
+            ("count 41", "refused 3 1", "count: refused 3 with a place"),
+            ("write 3 -", "refused 2 3", "write: refused 2 with a place"),
             ("/2?0", "-", "typed: -"),
             ("turn 1 1 1", "act up 5", "turn: act up"),
             ("turn 256 1 1", "?", "turn: ?"),

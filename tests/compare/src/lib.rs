@@ -5,24 +5,27 @@
 //! The words in quotes in the comments are the paper's. The model is the
 //! judge in a comparison: [`bench`] speaks the tester's language over it,
 //! [`course`] makes turns one after another for it, [`random`] writes scripts in that language, [`kinds`] names what came
-//! back, [`shrink`] makes a disagreement short. [`pace`] repeats feed and
+//! back and [`causes`] what a body is refused for, [`shrink`] makes a disagreement short. [`pace`] repeats feed and
 //! turn, to time them.
 
 pub mod address;
 pub mod command;
 pub mod count;
 pub mod decimal;
+pub mod fault;
 pub mod host;
 pub mod image;
 pub mod line;
 pub mod packet;
 pub mod ramp;
 pub mod receiver;
+pub mod structure;
 pub mod text;
 pub mod turn;
 pub mod unit;
 
 pub mod bench;
+pub mod causes;
 pub mod course;
 pub mod kinds;
 pub mod pace;

@@ -1,13 +1,9 @@
 //! The line check: what a body asks for, and whether it is taken.
 
-use crate::command::{self, Command, Fault};
+use crate::command;
+use crate::fault::Fault;
+use crate::structure::Structure;
 use crate::{Code, BODY};
-
-/// "such a line" stores "0 to 14 commands".
-pub const STORED_COMMANDS: usize = 14;
-
-/// "at most four open"
-pub const OPEN_LOOPS: usize = 4;
 
 /// What the check must know of the drive.
 #[derive(Clone, Copy, Debug, PartialEq, Eq)]
@@ -69,16 +65,17 @@ pub struct Line<'a> {
 }
 
 /// "Order of checks for a frame".
-pub fn check(body: &[u8], drive: Drive) -> Result<Body<'_>, Code> {
+pub fn check(body: &[u8], drive: Drive) -> Result<Body<'_>, Fault> {
     if body.len() > BODY {
-        return Err(Code::Letter);
+        return Err(Fault::nowhere(Code::Letter));
     }
     if let [] | [b'T' | b'Q' | b'$' | b'?', ..] = body {
-        return immediate(body).map(Body::Immediate).ok_or(Code::Letter);
+        // "A body that begins like an immediate one and is none has place 1".
+        return immediate(body).map(Body::Immediate).ok_or(Fault::after(0, Code::Letter));
     }
     let resumes = body == b"R" && drive == Drive::AtInput;
     if drive != Drive::Idle && !resumes {
-        return Err(Code::Busy);
+        return Err(Fault::nowhere(Code::Busy));
     }
     match body {
         b"R" => Ok(Body::Go),
@@ -88,7 +85,7 @@ pub fn check(body: &[u8], drive: Drive) -> Result<Body<'_>, Code> {
 }
 
 /// The body "as an idle unit judges it".
-pub fn check_idle(body: &[u8]) -> Result<(), Code> {
+pub fn check_idle(body: &[u8]) -> Result<(), Fault> {
     check(body, Drive::Idle).map(drop)
 }
 
@@ -109,31 +106,40 @@ fn immediate(body: &[u8]) -> Option<Immediate> {
 
 /// Reads a line: "the first fault from the left [..]; then structure, missing
 /// `R` after `s`, or more than 14 stored (2)".
-fn read(body: &[u8]) -> Result<Line<'_>, Code> {
+fn read(body: &[u8]) -> Result<Line<'_>, Fault> {
     let (slot, commands) = read_slot(body)?;
-    let mut structure = Structure::default();
+    let mut structure = Structure::new(slot.is_some());
     let mut rest = commands;
     while !rest.is_empty() && rest != b"R" {
-        let (command, after) = command::read(rest)?;
-        structure.add(command);
-        rest = after;
+        rest = read_one(body, rest, &mut structure)?;
     }
     let run = !rest.is_empty();
-    let stores = slot.is_none() || (run && structure.count <= STORED_COMMANDS);
-    if !structure.is_sound() || !stores {
-        return Err(Code::Letter);
+    structure.end(body.len(), slot.is_some() && !run);
+    if let Some(before) = structure.leftmost() {
+        return Err(Fault::after(before, Code::Letter));
     }
     let text = &commands[..commands.len() - rest.len()];
     Ok(Line { slot, text, run })
 }
 
-/// "`s` and a slot 0 to 15 come only first".
-fn read_slot(body: &[u8]) -> Result<(Option<u8>, &[u8]), Fault> {
+/// Reads the command with which the rest of a body begins; what comes after
+/// it. The place of a fault "is the first byte of the bad command".
+fn read_one<'a>(body: &[u8], rest: &'a [u8], structure: &mut Structure) -> Result<&'a [u8], Fault> {
+    let before = body.len() - rest.len();
+    let (command, after) = command::read(rest).map_err(|misread| Fault::after(before, misread.into()))?;
+    structure.add(before, command);
+    Ok(after)
+}
+
+/// "`s` and a slot 0 to 15 come only first"; the place of a bad slot is that of
+/// its `s`.
+pub fn read_slot(body: &[u8]) -> Result<(Option<u8>, &[u8]), Fault> {
     let [b's', after @ ..] = body else {
         return Ok((None, body));
     };
     let (digits, rest) = command::split_digits(after);
-    Ok((Some(command::slot(digits)?), rest))
+    let slot = command::slot(digits).map_err(|misread| Fault::after(0, misread.into()))?;
+    Ok((Some(slot), rest))
 }
 
 /// "the check for stored text": commands alone, 14 of them and 256 bytes at
@@ -142,48 +148,16 @@ pub fn is_stored_text(text: &[u8]) -> bool {
     if text.len() > BODY {
         return false;
     }
-    let mut structure = Structure::default();
+    let mut structure = Structure::new(true);
     let mut rest = text;
     while !rest.is_empty() {
-        let Ok((command, after)) = command::read(rest) else {
+        let Ok(after) = read_one(text, rest, &mut structure) else {
             return false;
         };
-        structure.add(command);
         rest = after;
     }
-    structure.is_sound() && structure.count <= STORED_COMMANDS
-}
-
-/// "Structure: each `G` closes the nearest open `g`, all closed at the end, at
-/// most four open; `S` is neither last nor directly before `g` or `G` (house)."
-#[derive(Clone, Copy, Debug, Default)]
-struct Structure {
-    count: usize,
-    open: usize,
-    after_skip: bool,
-    broken: bool,
-}
-
-impl Structure {
-    fn add(&mut self, command: Command) {
-        self.count += 1;
-        match command {
-            Command::Open => {
-                self.open += 1;
-                self.broken |= self.after_skip || self.open > OPEN_LOOPS;
-            }
-            Command::Close(_) => {
-                self.broken |= self.after_skip || self.open == 0;
-                self.open = self.open.saturating_sub(1);
-            }
-            _ => {}
-        }
-        self.after_skip = matches!(command, Command::Skip(_));
-    }
-
-    fn is_sound(&self) -> bool {
-        !self.broken && self.open == 0 && !self.after_skip
-    }
+    structure.end(text.len(), false);
+    structure.leftmost().is_none()
 }
 
 #[cfg(test)]
@@ -192,7 +166,7 @@ mod tests {
 
     #[track_caller]
     fn judged(body: &str, drive: Drive, code: u8) {
-        let found = check(body.as_bytes(), drive).map_or_else(|code| code as u8, |_| 0);
+        let found = check(body.as_bytes(), drive).map_or_else(|fault| fault.code as u8, |_| 0);
         assert_eq!(found, code, "{body} {drive:?}");
     }
 
@@ -278,9 +252,67 @@ mod tests {
         idle("s0A5", 2);
         idle("s0gR", 2);
         let line = check(b"s007H0A05R", Drive::Idle);
-        assert_eq!(line, Err(Code::Operand));
+        assert_eq!(line, Err(Fault::after(4, Code::Operand)));
         let line = check(b"s007HA05R", Drive::Idle);
         assert_eq!(line, Ok(Body::Line(Line { slot: Some(7), text: b"HA05", run: true })));
+    }
+
+    #[track_caller]
+    fn placed(body: &str, code: Code, place: u32) {
+        let fault = Fault { code, place: Some(place) };
+        assert_eq!(check_idle(body.as_bytes()), Err(fault), "{body}");
+    }
+
+    #[test]
+    fn places_of_what_is_misread() {
+        for (body, place) in
+            [("A5q", 3), ("g5R", 2), ("RR", 1), ("A5RR", 3), ("A5X", 3), ("XA", 1), ("s1s1R", 3)]
+        {
+            placed(body, Code::Letter, place);
+        }
+        for (body, place) in
+            [("A", 1), ("P5H013R", 3), ("GA", 2), ("s16R", 1), ("s", 1), ("s3AR", 3), ("AX", 1)]
+        {
+            placed(body, Code::Operand, place);
+        }
+        for body in ["?1", "TT", "QA", "$5", "T\n"] {
+            placed(body, Code::Letter, 1);
+        }
+    }
+
+    #[test]
+    fn places_of_a_broken_structure() {
+        let fifteen = "H".repeat(15);
+        for (body, place) in [
+            ("P5G2R", 3),
+            ("gggggGGGGGR", 5),
+            ("P5gA1R", 3),
+            ("gggggGGGGR", 1),
+            ("gGgS01R", 3),
+            ("P5S01R", 3),
+            ("S01gGGR", 1),
+            ("s0", 3),
+            ("s15A5", 6),
+            ("s0S01A5G", 8),
+            (&format!("s12{fifteen}R"), 18),
+            (&format!("s12{fifteen}"), 18),
+            (&format!("s12g{fifteen}R"), 4),
+        ] {
+            placed(body, Code::Letter, place);
+        }
+        placed(&format!("s{}", "0".repeat(255)), Code::Letter, 257);
+        placed(&format!("{}g", "H".repeat(255)), Code::Letter, 256);
+    }
+
+    #[test]
+    fn what_has_no_place() {
+        let long = "H".repeat(257);
+        for body in [&long, "A5R", "X"] {
+            let found = check(body.as_bytes(), Drive::Running);
+            let code = if body.len() > BODY { Code::Letter } else { Code::Busy };
+            assert_eq!(found, Err(Fault { code, place: None }));
+        }
+        assert_eq!(check_idle(long.as_bytes()), Err(Fault { code: Code::Letter, place: None }));
     }
 
     #[test]

@@ -3,7 +3,7 @@
 
 use crate::command::{Command, Level, FARTHEST};
 use crate::image::{self, Image};
-use crate::line::OPEN_LOOPS;
+use crate::structure::OPEN_LOOPS;
 use crate::unit::Unit;
 use crate::Code;
 

@@ -3,6 +3,7 @@
 use crate::address::Reach;
 use crate::command::Level;
 use crate::decimal::Decimal;
+use crate::fault::Fault;
 use crate::image::{self, Image};
 use crate::line::{self, Body, Drive, Immediate, Line};
 use crate::packet;
@@ -198,7 +199,7 @@ impl Unit {
 
     /// Obeys a frame, or answers a repeat; the number of an OEM frame that is
     /// not refused is kept.
-    fn heed(&mut self, framing: Framing, image: &mut Image) -> Result<Data, Code> {
+    fn heed(&mut self, framing: Framing, image: &mut Image) -> Result<Data, Fault> {
         let Framing::Oem { number, repeat } = framing else {
             return self.obey(image);
         };
@@ -227,8 +228,8 @@ impl Unit {
     }
 
     /// Does what the received body asks for.
-    fn obey(&mut self, image: &mut Image) -> Result<Data, Code> {
-        let body = self.receiver.body().ok_or(Code::Letter)?;
+    fn obey(&mut self, image: &mut Image) -> Result<Data, Fault> {
+        let body = self.receiver.body().ok_or(Fault::nowhere(Code::Letter))?;
         match line::check(body, self.drive())? {
             Body::Immediate(immediate) => return Ok(self.immediate(immediate, image)),
             Body::Again => self.begin(),
@@ -304,12 +305,12 @@ impl Unit {
         self.wait = Wait::Nothing;
     }
 
-    /// Writes the answer: "A refused frame carries its own code and no data;
-    /// all others carry the held code".
-    fn answer(&self, outcome: Result<Data, Code>, framing: Framing, answer: &mut [u8]) -> usize {
+    /// Writes the answer: "A refused frame carries its own code", with E6 "the
+    /// place of the fault as decimal data"; "all others carry the held code".
+    fn answer(&self, outcome: Result<Data, Fault>, framing: Framing, answer: &mut [u8]) -> usize {
         let (code, data) = match outcome {
             Ok(data) => (self.code, data),
-            Err(code) => (code, Data::Nothing),
+            Err(Fault { code, place }) => (code, place.map_or(Data::Nothing, Data::Number)),
         };
         let status = packet::status(!self.running, code);
         let write = match framing {

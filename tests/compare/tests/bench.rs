@@ -111,8 +111,8 @@ fn a_refused_start_leaves_the_unit() {
 fn calls_without_a_unit() {
     check(&[
         ("line -", "line 0"),
-        ("line 41", "line 3"),
-        ("line 61", "line 2"),
+        ("line 41", "line 3 1"),
+        ("line 61", "line 2 1"),
         ("text -", "text ok"),
         ("text 52", "text bad"),
         ("ramp 305175 1000 1", "ramp 2470 0 40a34c0000000000 4157487300000000 3f3a85806e460887"),
@@ -122,8 +122,8 @@ fn calls_without_a_unit() {
         ("ramp 1 1 endless", "ramp 1 0 3ff0000000000000 40b7d78000000000 3f2579927c8779f3"),
         ("write - R g - P 5 H 02 G 3", "wrote 675035483032473352"),
         ("write - -", "wrote -"),
-        ("write 3 -", "refused 2"),
-        ("write 16 R", "refused 3"),
+        ("write 3 -", "refused 2 3"),
+        ("write 16 R", "refused 3 1"),
         ("write - R A 007", "wrote 413752"),
         ("room 1", "room 1"),
         ("write - R A 7", "refused buffer"),
@@ -143,7 +143,7 @@ fn the_answer_buffer() {
         ("write - R A 7", "wrote 413752"),
         ("buffer", "buffer 413752a5a5a5a5a5"),
         ("write - R A 12345678", "refused buffer"),
-        ("write - R L 0", "refused 3"),
+        ("write - R L 0", "refused 3 1"),
         ("buffer", "buffer 413752a5a5a5a5a5"),
         ("room 4", "room 4"),
         ("buffer", &blank(4)),
@@ -208,7 +208,7 @@ ran 8 idle 1";
 #[test]
 fn help() {
     let lines = answers(&["help"]).concat();
-    assert_eq!(lines.lines().count(), 20);
+    assert_eq!(lines.lines().count(), 21);
     assert!(lines.lines().all(|line| line.contains(" : ")));
 }
 

@@ -1,4 +1,4 @@
-//! "Lines at the edges": the cases K1 to K14.
+//! "Lines at the edges": the cases K1 to K14, with E6's places.
 
 mod rig;
 
@@ -32,23 +32,23 @@ fn k4() {
 #[test]
 fn k5() {
     assert_eq!(Rig::new().status("A2147483647R"), 0x40);
-    assert_eq!(Rig::new().status("A2147483648R"), 0x63);
+    assert_eq!(Rig::new().fault("A2147483648R"), (0x63, 1));
 }
 
 #[test]
 fn k6() {
     assert_eq!(Rig::new().status("ggggA0G1G1G1G1R"), 0x40);
-    assert_eq!(Rig::new().status("gggggA0G1G1G1G1G1R"), 0x62);
+    assert_eq!(Rig::new().fault("gggggA0G1G1G1G1G1R"), (0x62, 5));
 }
 
 #[test]
 fn k7() {
-    assert_eq!(Rig::new().status("G1R"), 0x62);
+    assert_eq!(Rig::new().fault("G1R"), (0x62, 1));
 }
 
 #[test]
 fn k8() {
-    assert_eq!(Rig::new().status("gS03G2R"), 0x62);
+    assert_eq!(Rig::new().fault("gS03G2R"), (0x62, 2));
     assert_eq!(Rig::new().status("gA0S03e0G0R"), 0x40);
 }
 
@@ -69,7 +69,7 @@ fn k10() {
 #[test]
 fn k11() {
     for body in ["j3R", "L0R", "V0R"] {
-        assert_eq!(Rig::new().status(body), 0x63);
+        assert_eq!(Rig::new().fault(body), (0x63, 1));
     }
 }
 

@@ -29,7 +29,7 @@ fn queries_of_a_fresh_unit() {
     for body in ["T", "TR", "R", "?9"] {
         assert_eq!(rig.status(body), 0x60);
     }
-    assert_eq!(rig.status("?1"), 0x62);
+    assert_eq!(rig.fault("?1"), (0x62, 1));
 }
 
 #[test]
@@ -54,7 +54,7 @@ fn loaded_lines() {
     assert_eq!(rig.say("$"), answered(0x60, "A05"));
     assert_eq!(rig.status("s1A7R"), 0x60);
     assert_eq!(rig.status("T"), 0x60);
-    assert_eq!(rig.status("A"), 0x63);
+    assert_eq!(rig.fault("A"), (0x63, 1));
     assert_eq!(rig.status("R"), 0x40);
     rig.finish(15);
     assert_eq!(rig.position(), 5);
@@ -112,7 +112,7 @@ fn the_held_code() {
     for body in ["Q", "", "R", "T", "s1R", "A5"] {
         assert_eq!(rig.status(body), 0x6b, "{body}");
     }
-    assert_eq!(rig.status("A"), 0x63);
+    assert_eq!(rig.fault("A"), (0x63, 1));
     assert_eq!(rig.say("?0"), answered(0x6b, "0"));
     assert_eq!(rig.status("X"), 0x40);
     rig.finish(15);
@@ -123,9 +123,10 @@ fn the_held_code() {
 fn a_refused_frame_changes_nothing() {
     let mut rig = Rig::running("H01");
     rig.step(0);
-    for (body, status) in [("A5R", 0x4f), ("?5", 0x42), ("s1A5R", 0x4f), ("X", 0x4f)] {
+    for (body, status) in [("A5R", 0x4f), (&"A".repeat(257), 0x42), ("s1A5R", 0x4f), ("X", 0x4f)] {
         assert_eq!(rig.status(body), status);
     }
+    assert_eq!(rig.fault("?1"), (0x42, 1));
     assert_eq!(rig.image, image::empty());
     assert_eq!(rig.say("$"), answered(0x40, "H01"));
 }
@@ -183,8 +184,8 @@ fn stored_programs() {
     assert_eq!(rig.say("$").1, "");
     assert_eq!(rig.status("s3R"), 0x60);
     assert_eq!(rig.image, image::empty());
-    assert_eq!(rig.status("s3"), 0x62);
-    assert_eq!(rig.status("s16R"), 0x63);
+    assert_eq!(rig.fault("s3"), (0x62, 3));
+    assert_eq!(rig.fault("s16R"), (0x63, 1));
     assert_eq!(rig.status("s15P1R"), 0x60);
     assert_eq!(rig.status("?9"), 0x60);
     assert_eq!(rig.image, image::empty());

@@ -15,6 +15,8 @@ pub const REFUSED: u64 = 1 << 63;
 #[derive(Clone, Debug, PartialEq, Eq)]
 pub enum Call {
     Line(Vec<u8>),
+    /// Where the fault of a line is.
+    Place(Vec<u8>),
     Text(Vec<u8>),
     Image(Vec<u8>),
     /// How many commands a line takes.
@@ -28,6 +30,7 @@ impl Call {
     pub fn write(&self, input: &mut Vec<u8>) {
         match self {
             Call::Line(bytes) => write_slice(input, b'L', bytes),
+            Call::Place(bytes) => write_slice(input, b'P', bytes),
             Call::Text(bytes) => write_slice(input, b'T', bytes),
             Call::Image(bytes) => write_slice(input, b'I', bytes),
             Call::Count(bytes) => write_slice(input, b'N', bytes),
@@ -41,7 +44,8 @@ impl Call {
     /// What the model answers, as 64 bits.
     pub fn answer(&self) -> u64 {
         match self {
-            Call::Line(body) => line::check_idle(body).map_or_else(|code| code as u64, |()| 0),
+            Call::Line(body) => line::check_idle(body).map_or_else(|fault| fault.code as u64, |()| 0),
+            Call::Place(body) => line::check_idle(body).err().and_then(|fault| fault.place).map_or(0, u64::from),
             Call::Text(text) => u64::from(!line::is_stored_text(text)),
             Call::Image(bytes) => match bytes[..].try_into() {
                 Ok(image) if image::is_good(image) => 0,
@@ -60,7 +64,7 @@ impl Call {
 /// What the header adds to `DT_COUNT_REFUSED`.
 fn number_of(why: Uncounted) -> u64 {
     match why {
-        Uncounted::Line(code) => code as u64,
+        Uncounted::Line(fault) => fault.code as u64,
         Uncounted::Letter => 4,
         Uncounted::Count => 5,
     }
@@ -94,6 +98,7 @@ pub fn read(mut input: &[u8]) -> Option<Vec<Call>> {
         input = rest;
         calls.push(match letter {
             b'L' => Call::Line(read_slice(&mut input)?),
+            b'P' => Call::Place(read_slice(&mut input)?),
             b'T' => Call::Text(read_slice(&mut input)?),
             b'I' => Call::Image(read_slice(&mut input)?),
             b'N' => Call::Count(read_slice(&mut input)?),

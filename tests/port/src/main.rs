@@ -100,10 +100,13 @@ fn move_of(random: &mut Random) -> [u32; 4] {
     [v, l, random.pick(&[0, 0, 0, 1, 256, u32::MAX]), n]
 }
 
-/// One call, or those of all figures of a ramp.
+/// One call, the check of a line with its place, or all figures of a ramp.
 fn case(random: &mut Random) -> Vec<Call> {
     match random.below(10) {
-        0..=3 => vec![Call::Line(body(random))],
+        0..=3 => {
+            let body = body(random);
+            vec![Call::Line(body.clone()), Call::Place(body)]
+        }
         4 => vec![Call::Count(lines(random).counted())],
         5..=6 => vec![Call::Text(text(random))],
         7 => vec![Call::Image(image(random))],
@@ -130,7 +133,7 @@ impl fmt::Debug for Answers {
 
 fn word(call: &Call) -> &'static str {
     match call {
-        Call::Line(_) => "line",
+        Call::Line(_) | Call::Place(_) => "line",
         Call::Text(_) => "text",
         Call::Image(_) => "image",
         Call::Count(_) => "count",
@@ -140,7 +143,7 @@ fn word(call: &Call) -> &'static str {
 
 fn operands(call: &Call) -> String {
     match call {
-        Call::Line(bytes) | Call::Text(bytes) | Call::Count(bytes) => format!("{:?}", String::from_utf8_lossy(bytes)),
+        Call::Line(bytes) | Call::Place(bytes) | Call::Text(bytes) | Call::Count(bytes) => format!("{:?}", String::from_utf8_lossy(bytes)),
         Call::Image(bytes) => format!("{bytes:02x?}"),
         Call::Ramp(_, [v, l, endless, n]) => format!("{v} {l} {endless} {n}"),
     }

@@ -41,5 +41,6 @@ read-command-spec =
     (λ c. search needs)
     (λ c κs. search needs)
     (λ c. search needs)
+    (λ c. search needs)
     returns-2
     returns-3)

@@ -4,8 +4,8 @@ use Rattle.parts.specs.Parts.{part, same}
 use Rattle.digits.specs.Operand.{digitRun, valueAfter, operandOf, operandAt}
 use Rattle.commands.specs.Table.{table, find, asksOf, commandOf, oneOf, powerIn, exponentOf, within}
 use Rattle.commands.specs.Reading.{readAt}
-use Rattle.lines.specs.Texts.{readingIn, readingFrom, structured, lineJudged, storedJudged}
-use Rattle.lines.specs.Bodies.{immediates, immediateIn, bodyOf, endsWithR, textEnd, takenOf, lineOf, lineCode}
+use Rattle.lines.specs.Texts.{unplaced, readingIn, readingFrom, faultPlaces, fifteenth, storedPlaces, leftmost, lineJudged, storedJudged}
+use Rattle.lines.specs.Bodies.{immediates, immediateIn, bodyOf, endsWithR, textEnd, takenOf, lineOf, lineFault}
 use Rattle.lines.specs.Examples.{bytes}
 use Rattle.courses.specs.Meaning.{tailOf, courseOf, cost, courseIn, commandsIn}
 use Rattle.forecast.specs.Count.{anyBarred, countText, bodyText, countOf}
@@ -15,7 +15,7 @@ use Rattle.forecast.proofs.forecast_claims.Statement.{statement}
 use Rattle.forecast.proofs.forecast_claims.Tie as tie
 
 edges : counts examples ≡ given examples
-unfolding examples counts given countOf countText bodyText anyBarred tailOf courseOf cost courseIn commandsIn bytes part lineCode bodyOf same immediates immediateIn endsWithR textEnd takenOf lineOf readingIn readingFrom structured lineJudged storedJudged readAt table find asksOf commandOf oneOf powerIn exponentOf within operandAt operandOf digitRun valueAfter
+unfolding examples counts given countOf countText bodyText anyBarred tailOf courseOf cost courseIn commandsIn bytes part lineFault bodyOf same immediates immediateIn endsWithR textEnd takenOf lineOf unplaced readingIn readingFrom faultPlaces fifteenth storedPlaces leftmost lineJudged storedJudged readAt table find asksOf commandOf oneOf powerIn exponentOf within operandAt operandOf digitRun valueAfter
 edges = refl
 
 returns : tie.Need-returns

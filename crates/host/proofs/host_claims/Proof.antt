@@ -1,5 +1,5 @@
 -- `host::host_claims` meets its contract: each claim is a law of `ClaimLaws` or `LineLaws`. Assumes nothing.
-use Rattle.host.proofs.LineLaws.{line-once}
+use Rattle.host.proofs.LineLaws.{line-once, fault-few}
 use Rattle.host.proofs.ClaimLaws as claim
 use Rattle.host.proofs.host_claims.Statement.{statement}
 use Rattle.host.proofs.host_claims.Tie as tie
@@ -13,6 +13,8 @@ returns c = record {
   short-where = claim.short-where;
   its-code = claim.its-code;
   line-check = claim.line-check;
+  line-place = fault-few;
+  no-place = claim.no-place;
   too-many = claim.too-many;
   empty-reads = claim.empty-reads;
   empty-written = claim.empty-written;

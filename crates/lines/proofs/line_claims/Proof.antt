@@ -1,29 +1,33 @@
 -- `lines::line_claims`: every claim is a law of `proofs/`, and the examples compute. Assumes nothing.
-use mathlib.Core.Path.{_≡_, refl}
+use mathlib.Core.Path.{_≡_, refl, sym, _∙_}
+use mathlib.Core.List.{[]}
 use mathlib.Core.Bool.{true}
 use Rattle.parts.specs.Parts.{same}
 use Rattle.digits.specs.Operand.{digitRun, valueAfter, operandOf, operandAt}
 use Rattle.commands.specs.Table.{table, find, asksOf, commandOf, oneOf, powerIn, exponentOf, within}
 use Rattle.commands.specs.Reading.{readAt}
 use Rattle.commands.proofs.ReadingLaws.{read-step}
-use Rattle.lines.specs.Texts.{readingIn, readingFrom, structured, lineJudged, storedJudged}
-use Rattle.lines.specs.Bodies.{immediates, immediateIn, bodyOf, endsWithR, textEnd, takenOf, lineOf, lineCode}
+use Rattle.lines.specs.Texts.{unplaced, readingIn, readingFrom, faultPlaces, fifteenth, storedPlaces, leftmost, lineJudged, storedJudged}
+use Rattle.lines.specs.Bodies.{immediates, immediateIn, bodyOf, endsWithR, textEnd, takenOf, lineOf, lineFault, lineCode}
 use Rattle.lines.specs.Examples.{bytes, examples, each, operands, code-each, judged}
+use Rattle.lines.proofs.PlaceLaws.{places-none, stored-none, none-nil, nil-none}
 use Rattle.lines.proofs.TextLaws.{reading-law}
 use Rattle.lines.proofs.LoopLaws.{lawful, at-most-four, enclosed-by}
 use Rattle.lines.proofs.CodeLaws.{codes}
 use Rattle.lines.proofs.ListLaws.{list-law, list-back, written-spells, spelled-taken}
 use Rattle.lines.proofs.TakenLaws.{stored, text-checked, held, one-or-more}
+use Rattle.lines.proofs.FaultLaws.{leftmost-is, place-there, place-none, place-most, over-long}
+use Rattle.lines.proofs.BeforeLaws.{because}
 use Rattle.lines.proofs.SpellLaws.{taken-spelled, reads-spelled}
 use Rattle.lines.proofs.line_claims.Statement.{statement}
 use Rattle.lines.proofs.line_claims.Tie as tie
 
 edges : each examples ≡ true
-unfolding examples each bytes lineCode bodyOf same immediates immediateIn endsWithR textEnd takenOf lineOf readingIn readingFrom structured lineJudged storedJudged readAt table find asksOf commandOf oneOf powerIn exponentOf within operandAt operandOf digitRun valueAfter
+unfolding examples each bytes lineFault bodyOf same immediates immediateIn endsWithR textEnd takenOf lineOf readingIn readingFrom unplaced faultPlaces fifteenth storedPlaces leftmost lineJudged storedJudged readAt table find asksOf commandOf oneOf powerIn exponentOf within operandAt operandOf digitRun valueAfter
 edges = refl
 
 ranges : judged operands ≡ true
-unfolding operands code-each judged bytes lineCode bodyOf same immediates immediateIn endsWithR textEnd takenOf lineOf readingIn readingFrom structured lineJudged storedJudged readAt table find asksOf commandOf oneOf powerIn exponentOf within operandAt operandOf digitRun valueAfter
+unfolding operands code-each judged bytes lineCode lineFault bodyOf same immediates immediateIn endsWithR textEnd takenOf lineOf readingIn readingFrom unplaced faultPlaces fifteenth storedPlaces leftmost lineJudged storedJudged readAt table find asksOf commandOf oneOf powerIn exponentOf within operandAt operandOf digitRun valueAfter
 ranges = refl
 
 returns : tie.Need-returns
@@ -36,6 +40,14 @@ returns c = record {
   taken-spelled = taken-spelled;
   codes = codes;
   from-the-left = reading-law;
+  no-place = λ cs. (λ e. sym (places-none [] cs) ∙ none-nil _ e, λ e. nil-none _ (places-none [] cs ∙ e));
+  no-place-stored = λ run long cs. (λ e. sym (stored-none run long cs) ∙ none-nil _ e, λ e. nil-none _ (stored-none run long cs ∙ e));
+  the-leftmost = leftmost-is;
+  place-there = place-there;
+  place-none = place-none;
+  place-most = place-most;
+  over-long = over-long;
+  because = because;
   stored = stored;
   stored-checked = text-checked;
   held = held;

@@ -1,16 +1,22 @@
 -- `obeying::obey_line` meets its contract: each arm is the definition's clause.
 -- Assumes nothing.
+use mathlib.Core.Path.{sym, _∙_}
 use borrow.Author.Needs.{needs}
+use Rattle.obeying.proofs.DeedLaws.{line-place}
 use Rattle.obeying.proofs.obey_line.Statement.{statement}
 use Rattle.obeying.proofs.obey_line.Tie as tie
 
 returns : tie.Need-returns
 returns c = simp (c .refuse .ensures, c .before .if1 .taken)
 
+refuse-at-requires : tie.Need-refuse-at-requires
+refuse-at-requires c κs =
+    line-place _ (c .before .before .before .before .before .before .pre) (sym (c .before .before .before .line-of .ensures) ∙ c .before .line .given .1)
+
 returns-2 : tie.Need-returns-2
 returns-2 c =
     simp (
-      c .refuse2 .ensures,
+      c .refuse-at .ensures,
       c .before .before .line .given .1,
       ← c .before .before .before .before .line-of .ensures,
       c .before .before .before .before .before .if1 .left,
@@ -38,5 +44,5 @@ returns-4 c =
 pub obey-line-spec : {M : Type 1} → statement M
 obey-line-spec =
     tie.close
-    (tie.spec (λ c κs. search needs) returns (λ c κs. search needs) (λ c. search needs) (λ c κs. search needs) (λ c. search needs)
+    (tie.spec (λ c κs. search needs) returns (λ c κs. search needs) (λ c. search needs) refuse-at-requires (λ c. search needs)
     (λ c κs. search needs) (λ c κs. search needs) (λ c. search needs) (λ c κs. search needs) returns-2 returns-3 returns-4)

@@ -67,7 +67,7 @@ fn main() -> ExitCode {
         passed += steps.len();
         for step in steps {
             counts.add(step.kind);
-            step.event.into_iter().for_each(|event| counts.add(event));
+            step.events.into_iter().for_each(|event| counts.add(event));
         }
     }
     report(&counts, passed)

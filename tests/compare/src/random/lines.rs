@@ -343,11 +343,12 @@ impl Lines<'_> {
 
     /// A body that no drive takes, or only just.
     pub fn odd(&mut self) -> Vec<u8> {
-        match self.random.below(10) {
+        match self.random.below(14) {
             0..=1 => self.random.pick(NOT_IMMEDIATE).as_bytes().to_vec(),
             2..=3 => self.random.pick(EDGES).as_bytes().to_vec(),
             4 => self.noise(12),
             5 => self.long(),
+            6..=9 => self.faulty(),
             _ => {
                 let run = self.random.chance(80);
                 let line = if self.random.chance(70) { self.line(run) } else { self.storing() };
@@ -371,7 +372,7 @@ impl Lines<'_> {
 
     /// Any body.
     pub fn body(&mut self) -> Vec<u8> {
-        match self.random.below(20) {
+        match self.random.below(22) {
             0..=5 => self.line(true),
             6..=7 => self.line(false),
             8..=9 => self.storing(),
@@ -379,6 +380,7 @@ impl Lines<'_> {
             11 => self.random.pick(&["R", "X"]).as_bytes().to_vec(),
             12 => self.long(),
             13..=15 => self.single(),
+            16..=17 => self.faulty(),
             _ => self.odd(),
         }
     }
@@ -546,6 +548,7 @@ impl Lines<'_> {
         match self.random.below(10) {
             0..=1 => self.spoil_operands(&mut words),
             2 => self.spoil_structure(&mut words),
+            3 => words.extend(self.astray_words()),
             _ => {}
         }
         let mut list = Vec::new();
@@ -571,7 +574,7 @@ impl Lines<'_> {
 }
 
 /// The words one after another, then perhaps `R`.
-fn written(words: &[Word], run: bool) -> Vec<u8> {
+pub fn written(words: &[Word], run: bool) -> Vec<u8> {
     let mut body = Vec::new();
     for word in words {
         body.push(word.letter);

@@ -3,6 +3,7 @@
 use crate::address::reach;
 use crate::bench::with_hex;
 use crate::image;
+use crate::packet::checksum;
 use crate::random::Lines;
 
 /// Operations that come one after another.
@@ -29,7 +30,7 @@ pub struct Rare<'a> {
 impl Rare<'_> {
     /// One of them.
     pub fn script(&mut self) -> Script {
-        match self.below(116) {
+        match self.below(128) {
             0..=19 => self.deep_loops(),
             20 => self.many_times(),
             21..=23 => self.long_feed(),
@@ -42,6 +43,7 @@ impl Rare<'_> {
             87..=96 => self.not_in_the_base(),
             97..=113 => self.seen_buffer(),
             114 => self.image_length(),
+            115..=126 => self.refused(),
             _ if self.below(3) == 0 => self.longest_body(),
             _ => vec![b"help".to_vec()],
         }
@@ -255,6 +257,27 @@ impl Rare<'_> {
         vec![room, operation, seen, b"room 262".to_vec()]
     }
 
+    /// One refused body in each framing, for an idle unit or in a run.
+    fn refused(&mut self) -> Script {
+        let body = match self.below(6) {
+            0 => vec![self.pick(b"HgTR0"); 257 + self.lines.random.under(4)],
+            1 => self.pick(&["?1", "TT", "QR", "$$"]).into(),
+            _ => self.lines.faulty(),
+        };
+        let address = 0x30 + self.number;
+        let mut frame = [&[0x02, address, 0x31], &body[..], &[0x03]].concat();
+        frame.push(checksum(&frame));
+        let first = if self.below(3) == 0 { "M30000R" } else { "Q" };
+        vec![
+            self.frame(first.as_bytes()),
+            self.frame(&body),
+            with_hex("feed", &frame),
+            [&[b'/', address], &body[..]].concat(),
+            [b"oem 32 ", &body[..]].concat(),
+            b"unit".to_vec(),
+        ]
+    }
+
     /// An image of another length, from 512 on.
     fn image_length(&mut self) -> Script {
         let any = 512 + self.lines.random.under(3689);
@@ -310,6 +333,15 @@ mod tests {
         for _ in 0..200 {
             let script = rare(&mut random).length_alone();
             assert_eq!(answers(&script)[1], "refused image-bad");
+        }
+    }
+
+    #[test]
+    fn every_framing_refuses_alike() {
+        let mut random = Random::new(5);
+        for _ in 0..200 {
+            let told = answers(&rare(&mut random).refused());
+            assert_eq!(told[3], told[4]);
         }
     }
 

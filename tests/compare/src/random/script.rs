@@ -158,8 +158,8 @@ pub struct Step {
     pub begins: bool,
     /// The kind of the answer.
     pub kind: String,
-    /// The kind of what happened to the unit.
-    pub event: Option<String>,
+    /// The kinds of what happened to the unit, and of what it was refused for.
+    pub events: Vec<String>,
 }
 
 /// One bench and the scripts that it is given, one after another.
@@ -245,8 +245,9 @@ impl Round {
         let after = Glance::at(&self.bench);
         self.feed_again(&operation, &answer);
         let kind = kinds::of_answer(&operation, &answer);
-        let event = kinds::of_event(&operation, &answer, before, after);
-        Step { operation, answer, begins, kind, event }
+        let mut events = kinds::of_fault(&operation, &kind);
+        events.extend(kinds::of_event(&operation, &answer, before, after));
+        Step { operation, answer, begins, kind, events }
     }
 
     /// At times writes the same operation in another form: upper-case digits,

@@ -63,6 +63,12 @@ impl Rig {
         status
     }
 
+    /// Status of an answer to a refused body, and the place that it tells.
+    pub fn fault(&mut self, body: &str) -> (u8, u32) {
+        let (status, data) = self.say(body);
+        (status, data.parse().unwrap())
+    }
+
     pub fn turn(&mut self, sample: u8, elapsed: u32, steps: u32) -> Action {
         self.unit.turn(&self.image, sample, elapsed, steps).unwrap()
     }
