@@ -63,6 +63,7 @@ examples =
     ∷ example (bytes "T5") 2
     ∷ example (bytes "TR") 0
     ∷ example (bytes "?1") 2
+    ∷ example (bytes "?5") 0
     ∷ example (bytes "R") 0
     ∷ example (bytes "X") 0
     ∷ example [] 0
