@@ -14,8 +14,8 @@ pub(crate) fn act(c: Core, a: Act) -> Core
     let s = c.settings;
     match a {
         Act::MoveTo(n) => move_on(c, motor::move_to(m, n)),
-        Act::MoveUp(n) => move_by(c, n, motor::move_by(m, true, n)),
-        Act::MoveDown(n) => move_by(c, n, motor::move_by(m, false, n)),
+        Act::MoveUp(n) => move_on_by(c, n, motor::move_by(m, true, n)),
+        Act::MoveDown(n) => move_on_by(c, n, motor::move_by(m, false, n)),
         Act::SetPosition(n) => crate::set_motor(c, motor::place_at(m, n)),
         Act::Home(n) => crate::set_motor(c, motor::home(m, setting::flag_of(c), n)),
         Act::Set(which, n) => crate::set_settings(c, setting::set(s, which, n)),
@@ -35,7 +35,7 @@ pub(crate) fn move_on(c: Core, m: Moved) -> Core
 }
 
 // The same for P and D: an endless move that is taken has its speed from V.
-fn move_by(c: Core, n: u32, m: Moved) -> Core
+fn move_on_by(c: Core, n: u32, m: Moved) -> Core
     ensures { λ r. ⌜ r ≡ movedBy n m c ⌝ }
 {
     let mut d = move_on(c, m);
