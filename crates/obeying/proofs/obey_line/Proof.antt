@@ -5,12 +5,12 @@ use Rattle.obeying.proofs.obey_line.Statement.{statement}
 use Rattle.obeying.proofs.obey_line.Tie as tie
 
 returns : tie.Need-returns
-returns c = simp (c .refuse .ensures, c .before .if1 .taken)
+returns c = simp (c .obey-speed-or-busy .ensures, c .before .if1 .taken)
 
 returns-2 : tie.Need-returns-2
 returns-2 c =
     simp (
-      c .refuse2 .ensures,
+      c .refuse .ensures,
       c .before .before .line .given .1,
       ← c .before .before .before .before .line-of .ensures,
       c .before .before .before .before .before .if1 .left,
