@@ -1,33 +1,37 @@
 -- "Order of checks for a frame": what is obeyed has its tests in this order, and each kind of body has its code.
 -- Assumes nothing.
 use Prim.Native.Nat.{ℕ, _≤_}
-use mathlib.Core.Path.{_≡_, refl}
+use mathlib.Core.Path.{_≡_, refl, sym, subst}
 use mathlib.Core.List.{List, [], _∷_}
 use mathlib.Core.Bool.{Bool, true, false, cond, not, _&&_, _||_, and-false}
 use lib.ListN.{length}
 use lib.Dec.{ltb, eqb}
-use borrow.Author.Tests.{ltb-true, ltb-false, le-ltb, eqb-false, not-true}
+use borrow.Author.Tests.{ltb-true, ltb-false, le-ltb, eqb-true, eqb-false, not-true}
+use Rattle.parts.proofs.Laws.{cases}
 use Rattle.parts.specs.Parts.{same}
 use Rattle.commands.specs.Table as table
 use Rattle.commands.proofs.TableLaws.{each, each-one}
 use Rattle.lines.specs.declared.Immediate.{Immediate}
-use Rattle.lines.specs.declared.Immediate.the-variants.{Terminate, Status, CurrentText, Position, Speed, Sample, StepSize, Correction, Clear}
+use Rattle.lines.specs.declared.Immediate.the-variants.{Terminate, Status, CurrentText, Position, Speed, Sample, EndlessSpeed, StepSize, Correction, Clear}
 use Rattle.lines.specs.declared.Body.{Body}
 use Rattle.lines.specs.declared.Taken.{Taken}
 use Rattle.lines.specs.Examples.{bytes}
 use Rattle.lines.specs.Texts.{mostBytes}
 use Rattle.lines.specs.Bodies.{immediates, immediateIn, beginsImmediate, otherOf, bodyOf, lineOf, takenCode, bodyCode, lineCode}
-use Rattle.lines.proofs.CodeLaws.{TakenCode, taken-code}
-use Rattle.motor.specs.Motion.{waitsInput}
+use Rattle.lines.proofs.CodeLaws.{TakenCode, taken-code, codes as line-codes}
+use Rattle.motor.specs.Motion.{waitsInput, isEndless}
 use Rattle.turns.specs.declared.Core.{Core}
+use Rattle.turns.specs.Turns.{withEndless}
+use Rattle.obeying.specs.Speed.{speedLine, speedIn}
 use Rattle.obeying.specs.declared.Tell.{Tell}
 use Rattle.obeying.specs.declared.Write.{Write}
 use Rattle.obeying.specs.declared.Obeyed.{Obeyed}
 use Rattle.obeying.specs.Obeying as obeying
 use Rattle.obeying.proofs.DeedLaws.{too-long}
-use Rattle.claims.specs.Order.{immediate, resuming, codeInOrder}
+use Rattle.claims.specs.Order.{immediate, resuming, onTheWay, codeInOrder}
 use Rattle.claims.specs.Demand1.{OrderRow}
 use Rattle.claims.proofs.ImmediateLaws.{by-immediate, only-empty}
+use Rattle.claims.proofs.WayLaws.{speedy-is, no-way}
 
 -- a row of the order, for any code and obeying
 record Right (c : Core) (code : ℕ) (o : Obeyed) : Type 0 where
@@ -73,6 +77,7 @@ module _ (c : Core) where
   immediate-right Position = obeys (Tell.Number _) Write.Nothing c
   immediate-right Speed = obeys (Tell.Number _) Write.Nothing c
   immediate-right Sample = obeys (Tell.Number _) Write.Nothing c
+  immediate-right EndlessSpeed = obeys (Tell.Number _) Write.Nothing c
   immediate-right StepSize = obeys (Tell.Number _) Write.Nothing c
   immediate-right Correction = obeys (Tell.Number _) Write.Nothing c
   immediate-right Clear = obeys Tell.Nothing Write.Clear c
@@ -83,14 +88,23 @@ module _ (c : Core) where
   line-right (Taken.Line n run) e = obeys Tell.Nothing (Write.Text n) _
   line-right (Taken.Store slot at n) e = obeys Tell.Nothing (Write.Store slot at n) c
 
+  -- 02, E3: such a line on the way has the code that an idle unit gives it
+  speed-right : (b : List ℕ) → Right c (lineCode b) (obeying.speedObeyed b c)
+  unfolding table.oneOf each
+  speed-right b =
+      cases (λ (o : Obeyed). Right c (lineCode b) o) (eqb (lineCode b) 0)
+      (λ z. subst (λ (k : ℕ). Right c k (obeying.silent (withEndless (speedIn b) c))) (sym (eqb-true (lineCode b) 0 z)) (obeys Tell.Nothing Write.Nothing (withEndless (speedIn b) c)))
+      (λ z. refuses (lineCode b) (each-one (table.oneOf (2 ∷ 3 ∷ 15 ∷ [])) (2 ∷ 3 ∷ []) (lineCode b) refl (rw z at (line-codes b))))
+
   -- a line, then `R` and `X` alone: while running and when idle
-  line-or-busy : (running : Bool) {code : ℕ} {o : Obeyed} → Right c code o
-      → Right c (codeFor false false running false code) (cond running (obeying.refused obeying.busy c) o)
-  line-or-busy true h = busy
-  line-or-busy false h = h
+  line-or-busy : (running way : Bool) {code : ℕ} {o s : Obeyed} → Right c code o → Right c code s
+      → Right c (codeFor false false running way code) (cond running (cond way s (obeying.refused obeying.busy c)) o)
+  line-or-busy true true h k = k
+  line-or-busy true false h k = busy
+  line-or-busy false way h k = h
 
   run-right : (running waits : Bool) (d e : Core)
-      → Right c (codeFor false false running waits 0)
+      → Right c (codeFor false false running (waits || false) 0)
       (cond running (cond waits (obeying.silent d) (obeying.refused obeying.busy c)) (obeying.silent e))
   run-right true true d e = obeys Tell.Nothing Write.Nothing d
   run-right true false d e = busy
@@ -108,36 +122,42 @@ module _ (c : Core) where
         Right c (codeFor begins immediate (c .running) resuming (bodyCode k b)) (obeying.kindObeyed k b c)
 
     -- a body that begins with `T Q $ ?`, and any other
-    begins-right : beginsImmediate b ≡ true → AsKind true (immediate b) (resuming c b) (immediateIn immediates b)
+    begins-right : beginsImmediate b ≡ true → AsKind true (immediate b) (resuming c b || onTheWay c b) (immediateIn immediates b)
     unfolding table.oneOf
     begins-right e =
-        by-immediate (λ m k. AsKind true m (resuming c b) k) b e (λ i. rw (and-false (c .running)) (immediate-right i)) (refuses 2 refl)
+        by-immediate (λ m k. AsKind true m (resuming c b || onTheWay c b) k) b e (λ i. rw (and-false (c .running)) (immediate-right i)) (refuses 2 refl)
 
-    other-right : AsKind false (same b []) (same b (82 ∷ []) && waitsInput (c .motor .wait)) (otherOf b)
-    unfolding lineOf
-    other-right = go (same b []) (same b (82 ∷ [])) (same b (88 ∷ []))
+    other-right : length b ≤ mostBytes → beginsImmediate b ≡ false
+        → AsKind false (same b []) ((same b (82 ∷ []) && waitsInput (c .motor .wait)) || onTheWay c b) (otherOf b)
+    unfolding lineOf lineCode bodyOf onTheWay
+    other-right h f = go (same b []) (same b (82 ∷ [])) (same b (88 ∷ [])) refl refl refl
       where
-        go : (e r x : Bool) → AsKind false e (r && waitsInput (c .motor .wait)) (cond e Body.Empty (cond r Body.Run (cond x Body.Again Body.Line)))
-        go true r x = rw (and-false (c .running)) (obeys Tell.Nothing Write.Nothing c)
-        go false true x = run-right (c .running) (waitsInput (c .motor .wait)) _ _
-        go false false true = again-right (c .running) _
-        go false false false = line-or-busy (c .running) (line-right (lineOf b) (taken-code _ _))
+        go : (e r x : Bool) → same b [] ≡ e → same b (82 ∷ []) ≡ r → same b (88 ∷ []) ≡ x
+            → AsKind false e ((r && waitsInput (c .motor .wait)) || onTheWay c b) (cond e Body.Empty (cond r Body.Run (cond x Body.Again Body.Line)))
+        go true r x p q s = rw (and-false (c .running)) (obeys Tell.Nothing Write.Nothing c)
+        go false true x p q s = rw (no-way c b 82 q refl) (run-right (c .running) (waitsInput (c .motor .wait)) _ _)
+        go false false true p q s = rw (no-way c b 88 s refl) (again-right (c .running) _)
+        go false false false p q s =
+            let code : lineCode b ≡ takenCode (lineOf b) = rw (le-ltb mostBytes (length b) h, f, p, q, s) in
+            rw (speedy-is b)
+            (line-or-busy (c .running) (isEndless (c .motor .wait) && speedLine b) (line-right (lineOf b) (taken-code _ _))
+            (subst (λ (k : ℕ). Right c k (obeying.speedObeyed b c)) code (speed-right b)))
 
     -- "body over 256 bytes" is told before the body is looked at, and of no other
-    body-right : length b ≤ mostBytes → AsKind (beginsImmediate b) (immediate b) (resuming c b) (bodyOf b)
+    body-right : length b ≤ mostBytes → AsKind (beginsImmediate b) (immediate b) (resuming c b || onTheWay c b) (bodyOf b)
     unfolding bodyOf resuming bytes
     body-right h = rw (le-ltb mostBytes (length b) h) (go (beginsImmediate b) refl)
       where
-        go : (t : Bool) → beginsImmediate b ≡ t → AsKind t (immediate b) (resuming c b) (cond t (immediateIn immediates b) (otherOf b))
+        go : (t : Bool) → beginsImmediate b ≡ t → AsKind t (immediate b) (resuming c b || onTheWay c b) (cond t (immediateIn immediates b) (otherOf b))
         go true e = begins-right e
-        go false e = rw (only-empty b e) other-right
+        go false e = rw (only-empty b e) (other-right h e)
 
   any-right : (b : List ℕ) → Right c (codeInOrder b c) (obeying.bodyObeyed b c)
   unfolding codeInOrder obeying.bodyObeyed lineCode table.oneOf
   any-right b = go (ltb mostBytes (length b)) refl
     where
       go : (t : Bool) → ltb mostBytes (length b) ≡ t
-          → Right c (cond t 2 (codeFor (beginsImmediate b) (immediate b) (c .running) (resuming c b) (lineCode b))) (obeying.bodyObeyed b c)
+          → Right c (cond t 2 (codeFor (beginsImmediate b) (immediate b) (c .running) (resuming c b || onTheWay c b) (lineCode b))) (obeying.bodyObeyed b c)
       go true e = rw (too-long b (ltb-true mostBytes (length b) e)) (refuses 2 refl)
       go false e = body-right b (ltb-false mostBytes (length b) e)
 
