@@ -49,13 +49,7 @@ fn speed_after(c: Core, n: u32, m: Moved) -> u32
 {
     let s = c.settings;
     match m {
-        Moved::Goes(_) => {
-            if n == 0 {
-                s.speed
-            } else {
-                c.endless
-            }
-        }
+        Moved::Goes(_) => { if n == 0 { s.speed } else { c.endless } }
         Moved::Stops(_) => c.endless,
     }
 }
