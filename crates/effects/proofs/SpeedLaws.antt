@@ -45,7 +45,7 @@ use Rattle.turns.specs.Ends.{Reads}
 use Rattle.turns.proofs.TurnLaws.{at-command, at-wait}
 use Rattle.obeying.specs.declared.Obeyed.{Obeyed}
 use Rattle.obeying.specs.Speed.{speedLine, operandEnd}
-use Rattle.obeying.specs.Obeying.{loadedAs, silent, bodyObeyed}
+use Rattle.obeying.specs.Obeying.{loadedAs, refused, silent, bodyObeyed}
 use Rattle.obeying.specs.Deeds.{Speeds, Obeys, refuses, tells, stores, clears, stops, resumes, speeds, again, loads}
 use Rattle.obeying.proofs.SpeedLaws.{speed-code}
 use Rattle.drive.specs.Unit.{Drive}
@@ -89,13 +89,13 @@ way {c} {n} s =
     let r = in-range n (s .in-range) in
     record { runs = s .runs; up = w .0; left = w .1; endless = w .2; least = r .0; most = r .1; short = subst (λ (b : List ℕ). length b ≤ mostBytes) (s .whole) (s .short) }
 
+is-line : (zeros n : ℕ) → length (speedBody zeros n) ≤ mostBytes → bodyOf (speedBody zeros n) ≡ Body.Line
+unfolding bodyOf oneOf same
+is-line zeros n short = rw (le-ltb mostBytes (length (speedBody zeros n)) short)
+
 module _ {c : Core} {zeros n : ℕ} (w : OnTheWay c zeros n) where
   abbrev b : List ℕ
   b = speedBody zeros n
-
-  is-line : bodyOf b ≡ Body.Line
-  unfolding bodyOf oneOf same
-  is-line = rw (le-ltb mostBytes (length b) (w .short))
 
   long : length b ≡ zeros + length (decimal n) + 2
   long = omega (arith, length-append (spelling zeros n) (82 ∷ []), length-append (replicate zeros 48) (decimal n), length-replicate {A = ℕ} zeros 48)
@@ -113,11 +113,21 @@ module _ {c : Core} {zeros n : ℕ} (w : OnTheWay c zeros n) where
 
   taken : lineCode b ≡ 0
   unfolding lineCode
-  taken = rw is-line (speed-code b exact ∙ rw (operand, ranged n (w .least) (w .most)))
+  taken = rw (is-line zeros n (w .short)) (speed-code b exact ∙ rw (operand, ranged n (w .least) (w .most)))
 
   pub line-obeyed : bodyObeyed b c ≡ silent (withEndless n c)
   unfolding bodyObeyed
-  line-obeyed = rw (is-line, w .runs, w .endless, exact, taken, operand)
+  line-obeyed = rw (is-line zeros n (w .short), w .runs, w .endless, exact, taken, operand)
+
+-- in no other state
+pub busy : (c : Core) (zeros n : ℕ) → c .running ≡ true → ((up : Bool) (left : ℕ) → c .motor .wait ≡ Wait.Move up true left → ⊥)
+    → length (speedBody zeros n) ≤ mostBytes → bodyObeyed (speedBody zeros n) c ≡ refused 15 c
+unfolding bodyObeyed
+busy c zeros n run never short = go (isEndless (c .motor .wait)) refl
+  where
+    go : (e : Bool) → isEndless (c .motor .wait) ≡ e → bodyObeyed (speedBody zeros n) c ≡ refused 15 c
+    go true e = let w = endless-wait (c .motor .wait) e in absurd (never (w .0) (w .1) (w .2))
+    go false e = rw (is-line zeros n short, run, e)
 
 -- ---- a feed call
 

@@ -18,6 +18,7 @@ use Rattle.drive.specs.Unit.{Drive}
 use Rattle.drive.specs.Calls.{receivedBy, bodyBy}
 use Rattle.runs.specs.Reach.{Call, Feed, Turn, after}
 use Rattle.runs.specs.Causes.{Made}
+use Rattle.obeying.specs.Obeying.{refused, bodyObeyed}
 use Rattle.effects.specs.Bodies.{dataBy, Turns-to}
 use Rattle.effects.specs.Turns.{Takes, aTurn}
 
@@ -77,5 +78,8 @@ pub record SpeedClaims : Type 0 where
   pub stays : (u : Drive) (c : Call) → ((n : ℕ) → SetBy u c n → ⊥) → after c u .core .endless ≡ u .core .endless
   -- "It sets only the endless speed"; "The current text stays as it was"; nor does the image change
   pub only : (c : Core) (text image : List ℕ) (zeros n : ℕ) → OnTheWay c zeros n → Turns-to (Sped n) (speedBody zeros n) c text image
+  -- "at all other times 15 stands": in no other state is such a line obeyed while running, whatever its number
+  pub busy : (c : Core) (zeros n : ℕ) → c .running ≡ true → ((up : Bool) (left : ℕ) → c .motor .wait ≡ Wait.Move up true left → ⊥)
+      → length (speedBody zeros n) ≤ mostBytes → bodyObeyed (speedBody zeros n) c ≡ refused 15 c
   -- "the new immediate `?5` returns" it: what was set last, from `V` or on the way
   pub told : {u v : Drive} (c : Call) (n : ℕ) → SetBy u c n → Unset (after c u) v → (text : List ℕ) → dataBy (bytes "?5") (v .core) text ≡ decimal n

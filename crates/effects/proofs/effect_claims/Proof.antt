@@ -16,7 +16,7 @@ returns c = record {
   waits = waits;
   commands = commands;
   answers = answers;
-  speed = record { sets = speed.sets; stays = speed.stays; only = speed.only; told = speed.told };
+  speed = record { sets = speed.sets; stays = speed.stays; only = speed.only; busy = speed.busy; told = speed.told };
 }
 
 pub effect-claims-spec : {M : Type 1} → statement M
