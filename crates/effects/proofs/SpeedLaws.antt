@@ -1,10 +1,10 @@
 -- The endless speed is set by such a line on the way and by a `P0` or `D0` that is taken, and by no other deed. Assumes nothing.
 use Prim.Native.Nat.{ℕ, _+_, _-_, _≤_}
 use mathlib.Core.Path.{_≡_, refl, sym, ap, subst, _∙_}
-use mathlib.Core.List.{List, [], _∷_, _++_}
+use mathlib.Core.List.{List, [], _∷_}
 use mathlib.Core.Bool.{Bool, true, false, cond, and-eq-true-iff, false≢true}
 use native.Mathlib.Omega.{arith}
-use lib.ListN.{length, getD, replicate, length-append, length-replicate}
+use lib.ListN.{length, replicate, length-append, length-replicate}
 use lib.Seq.{getD-at}
 use lib.Dec.{leb, eqb}
 use borrow.Author.Tests.{leb-true, le-leb, le-ltb, eq-eqb, eqb-true}
@@ -57,7 +57,6 @@ use Rattle.runs.specs.Causes.{Made}
 use Rattle.runs.proofs.CallLaws.{Completes, framed, feed-cases, feed-done, turn-cases}
 use Rattle.runs.proofs.CommandLaws.{turned}
 use Rattle.effects.specs.Bodies.{dataBy, Turns-to}
-use Rattle.effects.specs.Turns.{aTurn}
 use Rattle.effects.specs.Speed as speed
 use Rattle.effects.specs.Speed.{speedBody, OnTheWay, Sped, Relative, SetBy, on-the-way, from-v, Unset, none, more}
 use Rattle.effects.proofs.BodyLaws.{turns-to, each-body}
