@@ -407,7 +407,8 @@ fn tell(b: Bench, out: &mut [u8]) -> usize {
     let at = tell_state(c.running, out);
     let next = tell_numbers(numbers_of(c), at, out);
     let last = u.last;
-    let end = tell_last(last, next, out);
+    let told = tell_last(last, next, out);
+    let end = telling::add_number(out, told, b" speed=", c.endless as u64);
     tell_text(text, f.length, end, out)
 }
 

@@ -30,13 +30,13 @@ module _ (b : List ℕ) (c : Core) (text image : List ℕ) (is-line : bodyOf b �
   unfolding bodyObeyed
   obeyed-as t e =
       ap (λ (k : Body). obeying.kindObeyed k b c) is-line
-      ∙ ap (λ (r : Bool). cond r (obeying.refused obeying.busy c) (lineObeyed (lineOf b) c)) idle
+      ∙ ap (λ (r : Bool). cond r (obeying.speedOrBusy b c) (lineObeyed (lineOf b) c)) idle
       ∙ ap (λ (x : Taken). lineObeyed x c) e
 
   loaded : (n : ℕ) (run : Bool) → take n (paddedText (take n b)) ≡ take n b → Loads b n run c text image (writing (Write.Text n) (loadedFor run n c))
   unfolding started loadedAs begun
-  loaded n true e = record { becomes = e; text-length = refl; begins = refl; none-open = refl; runs = refl; loaded = refl; code = refl; motor-same = refl; settings-same = refl; image-same = refl }
-  loaded n false e = record { becomes = e; text-length = refl; begins = refl; none-open = refl; runs = refl; loaded = refl; code = refl; motor-same = refl; settings-same = refl; image-same = refl }
+  loaded n true e = record { becomes = e; text-length = refl; begins = refl; none-open = refl; runs = refl; loaded = refl; code = refl; motor-same = refl; settings-same = refl; endless-same = refl; image-same = refl }
+  loaded n false e = record { becomes = e; text-length = refl; begins = refl; none-open = refl; runs = refl; loaded = refl; code = refl; motor-same = refl; settings-same = refl; endless-same = refl; image-same = refl }
 
   loads : (n : ℕ) (run : Bool) → lineOf b ≡ Taken.Line n run → Loads b n run c text image (bodyObeyed b c)
   loads n run e =

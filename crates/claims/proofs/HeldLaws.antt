@@ -14,7 +14,7 @@ use Rattle.turns.specs.declared.Core.{Core}
 use Rattle.turns.specs.Turns.{freshCore, started}
 use Rattle.obeying.specs.declared.Obeyed.{Obeyed}
 use Rattle.obeying.specs.Obeying.{loadedAs}
-use Rattle.obeying.specs.Deeds.{Obeys, refuses, tells, stores, clears, stops, resumes, again, loads}
+use Rattle.obeying.specs.Deeds.{Obeys, refuses, tells, stores, clears, stops, resumes, speeds, again, loads}
 use Rattle.drive.specs.declared.Last.{Last}
 use Rattle.drive.specs.Unit.{Drive}
 use Rattle.drive.specs.Repeats.{numberIn, isRefusal}
@@ -47,6 +47,7 @@ obeys-code h (stores slot at n i l) z = refl
 obeys-code h clears z = refl
 obeys-code h (stops e r) z = absurd (false≢true (sym h ∙ r))
 obeys-code h resumes z = refl
+obeys-code h (speeds n s) z = refl
 obeys-code h (again r) z = absurd (false≢true (sym z))
 obeys-code {c = c} h (loads run n r l) z =
     cases (λ (d : Core). d .running ≡ false → d .code ≡ c .code) run {x = started n c} {y = loadedAs n c} (λ q y. absurd (false≢true (sym y))) (λ q y. refl) z

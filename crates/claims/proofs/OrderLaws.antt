@@ -1,7 +1,7 @@
 -- "Order of checks for a frame": what is obeyed has its tests in this order, and each kind of body has its code.
 -- Assumes nothing.
 use Prim.Native.Nat.{ℕ, zero, suc, _+_, _≤_, _<_}
-use mathlib.Core.Path.{_≡_, refl, ap}
+use mathlib.Core.Path.{_≡_, refl, sym, ap, subst}
 use mathlib.Core.List.{List, [], _∷_}
 use mathlib.Core.Bool.{Bool, true, false, cond, not, _&&_, _||_, and-false}
 use native.Mathlib.Omega.{arith}
@@ -17,7 +17,7 @@ use Rattle.commands.specs.Reading.{fault}
 use Rattle.commands.specs.Table as table
 use Rattle.commands.proofs.TableLaws.{each, each-one}
 use Rattle.lines.specs.declared.Immediate.{Immediate}
-use Rattle.lines.specs.declared.Immediate.the-variants.{Terminate, Status, CurrentText, Position, Speed, Sample, StepSize, Correction, Clear}
+use Rattle.lines.specs.declared.Immediate.the-variants.{Terminate, Status, CurrentText, Position, Speed, Sample, EndlessSpeed, StepSize, Correction, Clear}
 use Rattle.lines.specs.declared.Body.{Body}
 use Rattle.lines.specs.declared.Taken.{Taken}
 use Rattle.lines.specs.Examples.{bytes}
@@ -26,16 +26,19 @@ use Rattle.lines.specs.Bodies.{immediates, immediateIn, beginsImmediate, otherO
 use Rattle.lines.specs.Claims.{PlacedIn}
 use Rattle.lines.proofs.CodeLaws.{TakenCode, taken-code, codes}
 use Rattle.lines.proofs.FaultLaws.{place-there, place-none, place-most}
-use Rattle.motor.specs.Motion.{waitsInput}
+use Rattle.motor.specs.Motion.{waitsInput, isEndless}
 use Rattle.turns.specs.declared.Core.{Core}
+use Rattle.turns.specs.Turns.{withEndless}
+use Rattle.obeying.specs.Speed.{speedLine, speedIn}
 use Rattle.obeying.specs.declared.Tell.{Tell}
 use Rattle.obeying.specs.declared.Write.{Write}
 use Rattle.obeying.specs.declared.Obeyed.{Obeyed}
 use Rattle.obeying.specs.Obeying as obeying
 use Rattle.obeying.proofs.DeedLaws.{too-long}
-use Rattle.claims.specs.Order.{immediate, resuming, faultInOrder}
+use Rattle.claims.specs.Order.{immediate, resuming, onTheWay, faultInOrder}
 use Rattle.claims.specs.Demand1.{placeData, OrderRow}
 use Rattle.claims.proofs.ImmediateLaws.{by-immediate, only-empty}
+use Rattle.claims.proofs.WayLaws.{speedy-is, no-way}
 
 -- a row of the order, for any fault and obeying
 record Right (c : Core) (f : Fault) (o : Obeyed) : Type 0 where
@@ -82,6 +85,7 @@ module _ (c : Core) where
   immediate-right Position = obeys (Tell.Number _) Write.Nothing c
   immediate-right Speed = obeys (Tell.Number _) Write.Nothing c
   immediate-right Sample = obeys (Tell.Number _) Write.Nothing c
+  immediate-right EndlessSpeed = obeys (Tell.Number _) Write.Nothing c
   immediate-right StepSize = obeys (Tell.Number _) Write.Nothing c
   immediate-right Correction = obeys (Tell.Number _) Write.Nothing c
   immediate-right Clear = obeys Tell.Nothing Write.Clear c
@@ -92,14 +96,28 @@ module _ (c : Core) where
   line-right (Taken.Line n run) e = obeys Tell.Nothing (Write.Text n) _
   line-right (Taken.Store slot at n) e = obeys Tell.Nothing (Write.Store slot at n) c
 
+  -- something obeyed, where a fault with the code 0 is told
+  obeys-at : (f : Fault) → f .code ≡ 0 → (tell : Tell) (write : Write) (d : Core) → Right c f (obeying.obeyed d (d .code) tell write)
+  unfolding table.oneOf
+  obeys-at f z tell write d = record { codes = rw z refl; refused = λ n. absurd (n z); held = λ k. refl }
+
+  -- 02, E3: such a line on the way has the code that an idle unit gives it
+  speed-right : (b : List ℕ) → Right c (lineFault b) (obeying.speedObeyed b c)
+  unfolding table.oneOf each lineCode
+  speed-right b =
+      cases (λ (o : Obeyed). Right c (lineFault b) o) (eqb (lineFault b .code) 0)
+      (λ z. obeys-at (lineFault b) (eqb-true (lineFault b .code) 0 z) Tell.Nothing Write.Nothing (withEndless (speedIn b) c))
+      (λ z. refuses (lineFault b) (each-one (table.oneOf (2 ∷ 3 ∷ 15 ∷ [])) (2 ∷ 3 ∷ []) (lineFault b .code) refl (rw z at (codes b))))
+
   -- a line, then `R` and `X` alone: while running and when idle
-  line-or-busy : (running : Bool) {f : Fault} {o : Obeyed} → Right c f o
-      → Right c (faultFor false false running false f) (cond running (obeying.refused obeying.busy c) o)
-  line-or-busy true h = busy
-  line-or-busy false h = h
+  line-or-busy : (running way : Bool) {f : Fault} {o s : Obeyed} → Right c f o → Right c f s
+      → Right c (faultFor false false running way f) (cond running (cond way s (obeying.refused obeying.busy c)) o)
+  line-or-busy true true h k = k
+  line-or-busy true false h k = busy
+  line-or-busy false way h k = h
 
   run-right : (running waits : Bool) (d e : Core)
-      → Right c (faultFor false false running waits noFault)
+      → Right c (faultFor false false running (waits || false) noFault)
       (cond running (cond waits (obeying.silent d) (obeying.refused obeying.busy c)) (obeying.silent e))
   run-right true true d e = obeys Tell.Nothing Write.Nothing d
   run-right true false d e = busy
@@ -117,36 +135,42 @@ module _ (c : Core) where
         Right c (faultFor begins immediate (c .running) resuming (bodyFault k b)) (obeying.kindObeyed k b c)
 
     -- a body that begins with `T Q $ ?`, and any other
-    begins-right : beginsImmediate b ≡ true → AsKind true (immediate b) (resuming c b) (immediateIn immediates b)
+    begins-right : beginsImmediate b ≡ true → AsKind true (immediate b) (resuming c b || onTheWay c b) (immediateIn immediates b)
     unfolding table.oneOf
     begins-right e =
-        by-immediate (λ m k. AsKind true m (resuming c b) k) b e (λ i. rw (and-false (c .running)) (immediate-right i)) (refuses (fault 2 1) refl)
+        by-immediate (λ m k. AsKind true m (resuming c b || onTheWay c b) k) b e (λ i. rw (and-false (c .running)) (immediate-right i)) (refuses (fault 2 1) refl)
 
-    other-right : AsKind false (same b []) (same b (82 ∷ []) && waitsInput (c .motor .wait)) (otherOf b)
-    unfolding lineOf
-    other-right = go (same b []) (same b (82 ∷ [])) (same b (88 ∷ []))
+    other-right : length b ≤ mostBytes → beginsImmediate b ≡ false
+        → AsKind false (same b []) ((same b (82 ∷ []) && waitsInput (c .motor .wait)) || onTheWay c b) (otherOf b)
+    unfolding lineOf lineFault bodyOf onTheWay
+    other-right h f = go (same b []) (same b (82 ∷ [])) (same b (88 ∷ [])) refl refl refl
       where
-        go : (e r x : Bool) → AsKind false e (r && waitsInput (c .motor .wait)) (cond e Body.Empty (cond r Body.Run (cond x Body.Again Body.Line)))
-        go true r x = rw (and-false (c .running)) (obeys Tell.Nothing Write.Nothing c)
-        go false true x = run-right (c .running) (waitsInput (c .motor .wait)) _ _
-        go false false true = again-right (c .running) _
-        go false false false = line-or-busy (c .running) (line-right (lineOf b) (taken-code _ _))
+        go : (e r x : Bool) → same b [] ≡ e → same b (82 ∷ []) ≡ r → same b (88 ∷ []) ≡ x
+            → AsKind false e ((r && waitsInput (c .motor .wait)) || onTheWay c b) (cond e Body.Empty (cond r Body.Run (cond x Body.Again Body.Line)))
+        go true r x p q s = rw (and-false (c .running)) (obeys Tell.Nothing Write.Nothing c)
+        go false true x p q s = rw (no-way c b 82 q refl) (run-right (c .running) (waitsInput (c .motor .wait)) _ _)
+        go false false true p q s = rw (no-way c b 88 s refl) (again-right (c .running) _)
+        go false false false p q s =
+            let same-fault : lineFault b ≡ takenFault (lineOf b) = rw (le-ltb mostBytes (length b) h, f, p, q, s) in
+            rw (speedy-is b)
+            (line-or-busy (c .running) (isEndless (c .motor .wait) && speedLine b) (line-right (lineOf b) (taken-code _ _))
+            (subst (λ (k : Fault). Right c k (obeying.speedObeyed b c)) same-fault (speed-right b)))
 
     -- "body over 256 bytes" is told before the body is looked at, and of no other
-    body-right : length b ≤ mostBytes → AsKind (beginsImmediate b) (immediate b) (resuming c b) (bodyOf b)
+    body-right : length b ≤ mostBytes → AsKind (beginsImmediate b) (immediate b) (resuming c b || onTheWay c b) (bodyOf b)
     unfolding bodyOf resuming bytes
     body-right h = rw (le-ltb mostBytes (length b) h) (go (beginsImmediate b) refl)
       where
-        go : (t : Bool) → beginsImmediate b ≡ t → AsKind t (immediate b) (resuming c b) (cond t (immediateIn immediates b) (otherOf b))
+        go : (t : Bool) → beginsImmediate b ≡ t → AsKind t (immediate b) (resuming c b || onTheWay c b) (cond t (immediateIn immediates b) (otherOf b))
         go true e = begins-right e
-        go false e = rw (only-empty b e) other-right
+        go false e = rw (only-empty b e) (other-right h e)
 
   any-right : (b : List ℕ) → Right c (faultInOrder b c) (obeying.bodyObeyed b c)
   unfolding faultInOrder obeying.bodyObeyed lineFault table.oneOf
   any-right b = go (ltb mostBytes (length b)) refl
     where
       go : (t : Bool) → ltb mostBytes (length b) ≡ t
-          → Right c (cond t (fault 2 0) (faultFor (beginsImmediate b) (immediate b) (c .running) (resuming c b) (lineFault b))) (obeying.bodyObeyed b c)
+          → Right c (cond t (fault 2 0) (faultFor (beginsImmediate b) (immediate b) (c .running) (resuming c b || onTheWay c b) (lineFault b))) (obeying.bodyObeyed b c)
       go true e = rw (too-long b (ltb-true mostBytes (length b) e)) (refuses (fault 2 0) refl)
       go false e = body-right b (ltb-false mostBytes (length b) e)
 
@@ -181,7 +205,7 @@ order-placed b c m =
     rw (le-ltb mostBytes (length b) m)
     (cases (Placed (length b)) (beginsImmediate b && not (immediate b))
     (λ e. record { inside = λ k. record { first = omega arith; last = omega arith }; nowhere = λ k. let w : _≡_ {A = ℕ} 0 1 = cc in absurd (omega arith) })
-    (λ e. cases (Placed (length b)) (c .running && not (immediate b || resuming c b))
+    (λ e. cases (Placed (length b)) (c .running && not (immediate b || (resuming c b || onTheWay c b)))
     (λ q. record { inside = λ k. let w : _≡_ {A = ℕ} 0 1 = cc in absurd (omega arith); nowhere = λ k. refl })
     (λ q. line-placed b m)))
 
@@ -207,7 +231,7 @@ unfolding faultInOrder
 order-most b c =
     cases Most (ltb mostBytes (length b)) (λ e. omega arith)
     (λ e. cases Most (beginsImmediate b && not (immediate b)) (λ q. omega arith)
-    (λ q. cases Most (c .running && not (immediate b || resuming c b)) (λ r. omega arith) (λ r. place-most b)))
+    (λ q. cases Most (c .running && not (immediate b || (resuming c b || onTheWay c b))) (λ r. omega arith) (λ r. place-most b)))
   where
     Most : Fault → Type 0
     Most f = f .place ≤ mostBytes + 1

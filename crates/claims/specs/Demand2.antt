@@ -45,6 +45,7 @@ pub record Loads (b : List ℕ) (n : ℕ) (run : Bool) (c : Core) (text image : 
   pub code : o .core .code ≡ cond run 0 (c .code)
   pub motor-same : o .core .motor ≡ c .motor
   pub settings-same : o .core .settings ≡ c .settings
+  pub endless-same : o .core .endless ≡ c .endless
   pub image-same : imageWritten (o .write) b image ≡ image
 
 -- "the text between slot and `R` is stored .. such a line starts no run and leaves the current text"

@@ -5,7 +5,7 @@ use mathlib.Core.List.{List, []}
 use mathlib.Core.Bool.{Bool, true, false, cond, not, _&&_, _||_}
 use lib.Dec.{leb, eqb}
 use Rattle.lines.specs.declared.Immediate.{Immediate}
-use Rattle.lines.specs.declared.Immediate.the-variants.{Terminate, Status, CurrentText, Position, Speed, Sample, StepSize, Correction, Clear}
+use Rattle.lines.specs.declared.Immediate.the-variants.{Terminate, Status, CurrentText, Position, Speed, Sample, EndlessSpeed, StepSize, Correction, Clear}
 use Rattle.lines.specs.declared.Body.{Body}
 use Rattle.lines.specs.Bodies.{bodyOf}
 use Rattle.frames.specs.declared.Frame.{Frame}
@@ -25,7 +25,7 @@ isRepeat last Framing.Plain = false
 isRepeat Last.Never (Framing.Oem q) = false
 isRepeat (Last.Number n) (Framing.Oem q) = repeats q && eqb (numberIn q) n
 
--- "a query other than `?9`": `Q`, `$`, `?0 ?2 ?4 ?6 ?7`
+-- "a query other than `?9`": `Q`, `$`, `?0 ?2 ?4 ?6 ?7`, and with E3 `?5`
 abbrev pub asks : Immediate → Bool
 asks Terminate = false
 asks Status = true
@@ -33,6 +33,7 @@ asks CurrentText = true
 asks Position = true
 asks Speed = true
 asks Sample = true
+asks EndlessSpeed = true
 asks StepSize = true
 asks Correction = true
 asks Clear = false

@@ -66,6 +66,7 @@ fn is_asking(i: Immediate) -> bool
         Immediate::Position => true,
         Immediate::Speed => true,
         Immediate::Sample => true,
+        Immediate::EndlessSpeed => true,
         Immediate::StepSize => true,
         Immediate::Correction => true,
         Immediate::Clear => false,

@@ -14,9 +14,9 @@ use Rattle.image.specs.Calls.{afterClear}
 use Rattle.flow.specs.Flow.{begun}
 use Rattle.motor.specs.declared.Wait.{Wait}
 use Rattle.motor.specs.declared.Wait.the-variants.{Nothing, Move, LegAway, LegToward, Delay, Input}
-use Rattle.motor.specs.Motion.{isLeg, stopped}
+use Rattle.motor.specs.Motion.{waiting, isLeg, stopped}
 use Rattle.turns.specs.declared.Core.{Core}
-use Rattle.turns.specs.Turns.{started, ended}
+use Rattle.turns.specs.Turns.{withMotor, started, ended}
 use Rattle.obeying.specs.declared.Tell.{Tell}
 use Rattle.obeying.specs.declared.Obeyed.{Obeyed}
 use Rattle.obeying.specs.Obeying.{bodyObeyed, kindObeyed, dataOf, textWritten, imageWritten, telling, silent, stepSize}
@@ -46,7 +46,7 @@ module _ (c : Core) (text image : List ℕ) where
     tells = ap (λ (o : Obeyed). dataOf (o .tell) (o .core .flow .length) (textWritten (o .write) b text)) e;
   }
 
-  turns-to : {How : Core → Core → Type 0} (b : List ℕ) (d : Core) → bodyObeyed b c ≡ silent d → How c d → Turns-to How b c text image
+  pub turns-to : {How : Core → Core → Type 0} (b : List ℕ) (d : Core) → bodyObeyed b c ≡ silent d → How c d → Turns-to How b c text image
   turns-to b d e h = let x : coreBy b c ≡ d = ap (λ (o : Obeyed). o .core) e in record { how = rw x h; only = rw x (makes b d Tell.Nothing e) }
 
   is-stopped : Stopped c (ended (c .code) c)
@@ -76,6 +76,7 @@ module _ (c : Core) (text image : List ℕ) where
     position = makes (bytes "?0") c _ (kind (bytes "?0") (Body.Immediate Immediate.Position) refl);
     speed = makes (bytes "?2") c _ (kind (bytes "?2") (Body.Immediate Immediate.Speed) refl);
     sample = makes (bytes "?4") c _ (kind (bytes "?4") (Body.Immediate Immediate.Sample) refl);
+    endless = makes (bytes "?5") c _ (kind (bytes "?5") (Body.Immediate Immediate.EndlessSpeed) refl);
     step-size = λ h. let z : min (c .settings .exponent) 8 ≡ c .settings .exponent = omega arith in
         rw z at (makes (bytes "?6") c _ (kind (bytes "?6") (Body.Immediate Immediate.StepSize) refl));
     correction = makes (bytes "?7") c _ (kind (bytes "?7") (Body.Immediate Immediate.Correction) refl);
@@ -89,7 +90,7 @@ module _ (c : Core) (text image : List ℕ) where
     idle-t = λ h. makes (bytes "T") c Tell.Nothing (kind (bytes "T") (Body.Immediate Immediate.Terminate) refl ∙ rw h);
     stops = λ h. turns-to (bytes "T") (ended (c .code) c) (kind (bytes "T") (Body.Immediate Immediate.Terminate) refl ∙ rw h) is-stopped;
     tr-is-t = kind (bytes "TR") (Body.Immediate Immediate.Terminate) refl ∙ sym (kind (bytes "T") (Body.Immediate Immediate.Terminate) refl);
-    resumes = λ digits h w. turns-to (bytes "R") _ (kind (bytes "R") Body.Run refl ∙ rw (h, w)) (record {
+    resumes = λ digits h w. turns-to (bytes "R") (withMotor (waiting Nothing (c .motor)) c) (kind (bytes "R") Body.Run refl ∙ rw (h, w)) (record {
       flow-same = refl;
       settings-same = refl;
       running-same = refl;

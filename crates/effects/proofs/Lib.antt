@@ -1,2 +1,3 @@
 pub mod BodyLaws
 pub mod TurnLaws
+pub mod SpeedLaws

@@ -32,13 +32,13 @@ use Rattle.turns.specs.declared.Action.{Action}
 use Rattle.turns.specs.declared.Direction.{Direction}
 use Rattle.commands.specs.declared.Setting.the-variants.{TopSpeed, Acceleration, FlagLevel, Turned, MoveCurrent, HoldCurrent, StepSize, Correction, Outputs, Baud}
 use Rattle.turns.specs.Settings.{defaults, withSetting}
-use Rattle.turns.specs.Turns.{freshCore, started, withFlow, withMotor, withSettings, ended, astray, moved, acted, flowed, skipped, jumped, skipTaken, commandTaken, stays, settled, stepOf, turnCore, textAfter, actionAnswered}
+use Rattle.turns.specs.Turns.{freshCore, started, withFlow, withMotor, withSettings, withEndless, ended, astray, moved, acted, flowed, skipped, jumped, skipTaken, commandTaken, stays, settled, stepOf, turnCore, textAfter, actionAnswered}
 use Rattle.turns.specs.Ends.{Reads}
 use Rattle.turns.proofs.MoveLaws.{clash}
 use Rattle.turns.proofs.TurnLaws.{at-wait, turn-last}
 use Rattle.obeying.specs.declared.Obeyed.{Obeyed}
 use Rattle.obeying.specs.Obeying.{textWritten}
-use Rattle.obeying.specs.Deeds.{Obeys, refuses, tells, stores, clears, stops, resumes, again, loads}
+use Rattle.obeying.specs.Deeds.{Obeys, refuses, tells, stores, clears, stops, resumes, speeds, again, loads}
 use Rattle.drive.specs.declared.StartAnswer.{StartAnswer}
 use Rattle.drive.specs.Unit.{Drive, drive}
 use Rattle.drive.specs.Calls.{freshUnit, startOf, mostSample, receivedBy, bodyBy, Turning, turnTaken, turnOf}
@@ -72,6 +72,7 @@ fresh-core u = record {
   code = refl;
   first = refl;
   none-open = refl;
+  endless = refl;
 }
 
 started-core : (n : ℕ) → Fresh (started n freshCore)
@@ -87,6 +88,7 @@ started-core n u = record {
   code = refl;
   first = refl;
   none-open = refl;
+  endless = refl;
 }
 
 pub start-defaults : (number : ℕ) (image body text : List ℕ) → startOf number image body text .answer ≡ StartAnswer.Started → Defaults (startOf number image body text .unit)
@@ -112,6 +114,7 @@ obeys-same text h (stores slot at n i l) = (refl, refl, refl, refl)
 obeys-same text h clears = (refl, refl, refl, refl)
 obeys-same text h (stops e r) = (refl, refl, refl, refl)
 obeys-same text h resumes = (refl, refl, refl, refl)
+obeys-same text h (speeds n s) = (refl, refl, refl, refl)
 obeys-same text h (again r) = clash h r
 obeys-same text h (loads run n r l) = clash h r
 
@@ -190,6 +193,10 @@ module _ (u : Drive) (sample ms steps : ℕ) (image : List ℕ) (run : u .core .
   abbrev moving : Motor → ℕ → Drive
   moving a next = turnTaken (settled (stays (withMotor a (behind next)))) image u .unit
 
+  -- the same with another endless speed
+  abbrev turning : ℕ → Motor → ℕ → Drive
+  turning e a next = turnTaken (settled (stays (withEndless e (withMotor a (behind next))))) image u .unit
+
   -- a command that sets, and one that moves or waits
   sets-to : (i k : ℕ) (s : Settings) (d : Command) (next : ℕ) → Reads (textOf u) (u .core) (At d next) → made d next ≡ setting s next
       → listed s ≡ set (listed (u .core .settings)) i k → Sets t i k
@@ -200,13 +207,17 @@ module _ (u : Drive) (sample ms steps : ℕ) (image : List ℕ) (run : u .core .
         sets = l;
       })
 
-  leads-to : (w : Wait) (p : ℕ) (k : Bool) (a : Motor) (d : Command) (next : ℕ) → Reads (textOf u) (u .core) (At d next) → made d next ≡ moving a next
+  leads-at : (s : ℕ) (w : Wait) (p : ℕ) (k : Bool) (a : Motor) (d : Command) (next : ℕ) → Reads (textOf u) (u .core) (At d next) → made d next ≡ turning s a next
       → a .wait ≡ w → a .position ≡ p → a .known ≡ k → a .sample ≡ sample → Leads t w p k
-  leads-to w p k a d next r e x y z q =
+  leads-at s w p k a d next r e x y z q =
       subst (λ (v : Drive). Plainly u v sample w p k) (sym (turned u run sample ms steps image m d next r ∙ e)) (record {
         goes = record { runs = run; text-same = refl; loaded-same = refl; code-same = refl; waits = x; position = y; known = z; keeps-sample = q };
         settings-same = refl;
       })
+
+  leads-to : (w : Wait) (p : ℕ) (k : Bool) (a : Motor) (d : Command) (next : ℕ) → Reads (textOf u) (u .core) (At d next) → made d next ≡ moving a next
+      → a .wait ≡ w → a .position ≡ p → a .known ≡ k → a .sample ≡ sample → Leads t w p k
+  leads-to = leads-at (u .core .endless)
 
   set-one : {l i : ℕ} (n : ℕ) → Letter l i → Takes t l n → Sets t i n
   unfolding commandTaken acted commandOf find table
@@ -257,21 +268,21 @@ module _ (u : Drive) (sample ms steps : ℕ) (image : List ℕ) (run : u .core .
 
   endless-up : Takes t 80 0 → known ≡ true → Leads t (Wait.Move true true (top - here t)) (here t) true
   unfolding commandTaken acted commandOf find table reported relative room
-  endless-up (next, r) k = leads-to (Wait.Move true true (top - now .position)) _ true (waiting (Wait.Move true true (top - now .position)) now) (commandOf 80 0) next r (rw k) refl refl k refl
+  endless-up (next, r) k = leads-at (u .core .settings .speed) (Wait.Move true true (top - now .position)) _ true (waiting (Wait.Move true true (top - now .position)) now) (commandOf 80 0) next r (rw k) refl refl k refl
 
   endless-down : Takes t 68 0 → known ≡ true → Leads t (Wait.Move false true (here t)) (here t) true
   unfolding commandTaken acted commandOf find table reported relative room
-  endless-down (next, r) k = leads-to (Wait.Move false true (now .position)) _ true (waiting (Wait.Move false true (now .position)) now) (commandOf 68 0) next r (rw k) refl refl k refl
+  endless-down (next, r) k = leads-at (u .core .settings .speed) (Wait.Move false true (now .position)) _ true (waiting (Wait.Move false true (now .position)) now) (commandOf 68 0) next r (rw k) refl refl k refl
 
   up : (n : ℕ) → 0 < n → n ≤ top - here t → Takes t 80 n → known ≡ true
       → Leads t (Wait.Move true false n) (here t) true
   unfolding commandTaken acted commandOf find table reported relative finite room
-  up n l h (next, r) k = leads-to (Wait.Move true false n) _ true (waiting (Wait.Move true false n) now) (commandOf 80 n) next r (rw (k, ne-eqb n 0 (λ z. omega arith), le-leb n (top - now .position) h)) refl refl k refl
+  up n l h (next, r) k = leads-to (Wait.Move true false n) _ true (waiting (Wait.Move true false n) now) (commandOf 80 n) next r (rw (k, ne-eqb n 0 (λ z. omega arith), le-leb n (top - now .position) h, ne-eqb n 0 (λ z. omega arith))) refl refl k refl
 
   down : (n : ℕ) → 0 < n → n ≤ here t → Takes t 68 n → known ≡ true
       → Leads t (Wait.Move false false n) (here t) true
   unfolding commandTaken acted commandOf find table reported relative finite room
-  down n l h (next, r) k = leads-to (Wait.Move false false n) _ true (waiting (Wait.Move false false n) now) (commandOf 68 n) next r (rw (k, ne-eqb n 0 (λ z. omega arith), le-leb n (now .position) h)) refl refl k refl
+  down n l h (next, r) k = leads-to (Wait.Move false false n) _ true (waiting (Wait.Move false false n) now) (commandOf 68 n) next r (rw (k, ne-eqb n 0 (λ z. omega arith), le-leb n (now .position) h, ne-eqb n 0 (λ z. omega arith))) refl refl k refl
 
   to-above : (n : ℕ) → here t < n → n ≤ top → Takes t 65 n → known ≡ true
       → Leads t (Wait.Move true false (n - here t)) (here t) true

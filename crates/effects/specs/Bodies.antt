@@ -97,6 +97,8 @@ pub record EachBody (c : Core) (text image : List ℕ) : Type 0 where
   pub position : Asks (bytes "?0") c text image (decimal (c .motor .position))
   pub speed : Asks (bytes "?2") c text image (decimal (c .settings .speed))
   pub sample : Asks (bytes "?4") c text image (decimal (c .motor .sample))
+  -- 02, E3: "the new immediate `?5` returns" the endless speed
+  pub endless : Asks (bytes "?5") c text image (decimal (c .endless))
   pub step-size : c .settings .exponent ≤ 8 → Asks (bytes "?6") c text image (decimal (2 ^ c .settings .exponent))
   pub correction : Asks (bytes "?7") c text image (decimal (c .settings .correction))
   pub current : Asks (bytes "$") c text image (take (c .flow .length) text)

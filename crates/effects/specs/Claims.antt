@@ -12,6 +12,7 @@ use Rattle.drive.specs.Calls.{startOf, turnOf}
 use Rattle.runs.specs.Reach.{Feed, Turn, after}
 use Rattle.runs.specs.Causes.{Made}
 use Rattle.effects.specs.Bodies.{EachBody}
+use Rattle.effects.specs.Speed.{SpeedClaims}
 use Rattle.effects.specs.Turns.{Defaults, SameRun, Idles, aTurn, here, EachCommand, EachWait, Answers}
 
 pub record EffectClaims : Type 0 where
@@ -32,3 +33,5 @@ pub record EffectClaims : Type 0 where
       → EachCommand (aTurn u sample ms steps image)
   pub answers : (u : Drive) (sample ms steps : ℕ) (image : List ℕ) → Made u sample steps image
       → Answers (turnOf u sample ms steps image)
+  -- 02, E3: what sets the endless speed
+  pub speed : SpeedClaims

@@ -1,3 +1,4 @@
 pub mod Bodies
 pub mod Turns
+pub mod Speed
 pub mod Claims

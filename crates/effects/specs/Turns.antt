@@ -67,6 +67,8 @@ pub record Defaults (u : Drive) : Type 0 where
   pub code : u .core .code ≡ 0
   pub first : u .core .flow .at ≡ 0
   pub none-open : u .core .flow .depth ≡ 0
+  -- 02, E3: "0 before the first endless move"
+  pub endless : u .core .endless ≡ 0
 
 -- ---- one turn: u becomes v, with this sample
 

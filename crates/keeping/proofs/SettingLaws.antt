@@ -10,6 +10,7 @@ use Rattle.digits.specs.Operand.{widest}
 use Rattle.commands.specs.declared.Command.the-variants.{Plain}
 use Rattle.commands.specs.declared.Act.the-variants.{Set}
 use Rattle.commands.specs.declared.Setting.{Setting}
+use Rattle.commands.specs.declared.Setting.the-variants.{TopSpeed}
 use Rattle.commands.specs.declared.Exponent.{Exponent}
 use Rattle.commands.specs.declared.Exponent.the-variants.{Power, NoPower}
 use Rattle.commands.specs.declared.Range.{Range}
@@ -17,8 +18,9 @@ use Rattle.commands.specs.Table.{settingLetter, table, find, asksOf, within, ex
 use Rattle.commands.specs.Writing.{permits, inRange}
 use Rattle.commands.proofs.TableLaws.{exponent-most}
 use Rattle.turns.specs.declared.setting.Settings.{Settings}
+use Rattle.turns.specs.declared.Core.{Core}
 use Rattle.turns.specs.Settings.{exponentOr}
-use Rattle.keeping.specs.Deeds.{Sets, none, setting}
+use Rattle.keeping.specs.Deeds.{Sets, none, setting, Turns-at, same-speed, from-v}
 
 -- a number from a row of the table is at most the row's greatest
 pub up-to : (low n high : ℕ) → within (Range.From low high) n 2 ≡ true → n ≤ high
@@ -47,6 +49,15 @@ speed-fits (setting which n r) h =
     (λ e. let q : settingLetter which ≡ 86 = sym (eqb-true 86 (settingLetter which) e) in
     rw q (omega (arith, up-to 1 n 16777216 (row-holds 86 n which q r))))
     (λ e. h)
+
+-- 02, E3: the endless speed is set in the range of `V`, or from it
+pub speed-most : (n : ℕ) → inRange (Plain (Set TopSpeed n)) ≡ true → n ≤ widest
+unfolding asksOf find table
+speed-most n r = omega (arith, up-to 1 n 16777216 (row-holds 86 n TopSpeed refl r))
+
+pub endless-fits : {c : Core} {e : ℕ} → Turns-at c e → c .endless ≤ widest → c .settings .speed ≤ widest → e ≤ widest
+endless-fits same-speed h v = h
+endless-fits from-v h v = v
 
 -- `o`: "1400 to 1650"
 pub correction-fits : {s r : Settings} → Sets s r → s .correction ≤ widest → r .correction ≤ widest

@@ -84,6 +84,7 @@ examples =
     ∷ example (bytes "T5") 2 1
     ∷ example (bytes "TR") 0 0
     ∷ example (bytes "?1") 2 1
+    ∷ example (bytes "?5") 0 0
     ∷ example (bytes "R") 0 0
     ∷ example (bytes "X") 0 0
     ∷ example [] 0 0

@@ -2,26 +2,28 @@
 -- Assumes nothing.
 use Prim.Native.Nat.{ℕ, zero, suc, _^_, min}
 use mathlib.Core.List.{List, []}
-use mathlib.Core.Bool.{Bool, true, false, cond}
+use mathlib.Core.Bool.{Bool, true, false, cond, _&&_}
 use lib.ListN.{take}
+use lib.Dec.{eqb}
 use Rattle.parts.specs.Parts.{part, paddedText}
 use Rattle.digits.specs.Decimal.{decimal}
 use Rattle.commands.specs.declared.Fault.{Fault}
 use Rattle.commands.specs.Reading.{fault}
 use Rattle.lines.specs.declared.Immediate.{Immediate}
-use Rattle.lines.specs.declared.Immediate.the-variants.{Terminate, Status, CurrentText, Position, Speed, Sample, StepSize, Correction, Clear}
+use Rattle.lines.specs.declared.Immediate.the-variants.{Terminate, Status, CurrentText, Position, Speed, Sample, EndlessSpeed, StepSize, Correction, Clear}
 use Rattle.lines.specs.declared.Body.{Body}
 use Rattle.lines.specs.declared.Taken.{Taken}
-use Rattle.lines.specs.Bodies.{bodyOf, lineOf}
+use Rattle.lines.specs.Bodies.{bodyOf, lineOf, lineFault}
 use Rattle.image.specs.Calls.{afterStore, afterClear}
 use Rattle.flow.specs.Flow.{begun}
 use Rattle.motor.specs.declared.Wait.{Wait}
-use Rattle.motor.specs.Motion.{waiting, waitsInput}
+use Rattle.motor.specs.Motion.{waiting, waitsInput, isEndless}
 use Rattle.turns.specs.declared.Core.{Core}
-use Rattle.turns.specs.Turns.{core, withMotor, started, ended}
+use Rattle.turns.specs.Turns.{core, withMotor, withEndless, started, ended}
 use Rattle.obeying.specs.declared.Tell.{Tell}
 use Rattle.obeying.specs.declared.Write.{Write}
 use Rattle.obeying.specs.declared.Obeyed.{Obeyed}
+use Rattle.obeying.specs.Speed.{speedLine, speedIn}
 
 -- ---- data
 
@@ -79,6 +81,7 @@ immediateObeyed CurrentText c = telling Tell.Text c
 immediateObeyed Position c = telling (Tell.Number (c .motor .position)) c
 immediateObeyed Speed c = telling (Tell.Number (c .settings .speed)) c
 immediateObeyed Sample c = telling (Tell.Number (c .motor .sample)) c
+immediateObeyed EndlessSpeed c = telling (Tell.Number (c .endless)) c
 immediateObeyed StepSize c = telling (Tell.Number (stepSize (c .settings .exponent))) c
 immediateObeyed Correction c = telling (Tell.Number (c .settings .correction)) c
 immediateObeyed Clear c = writing Write.Clear c
@@ -102,7 +105,7 @@ againObeyed c = cond (c .running) (refused busy c) (silent (started (c .flow .le
 
 -- "without, it is loaded and held": the text is at its beginning, and has not been run
 unfoldable pub loadedAs : ℕ → Core → Core
-loadedAs n c = core (begun n) (c .motor) (c .settings) false true (c .code)
+loadedAs n c = core (begun n) (c .motor) (c .settings) false true (c .code) (c .endless)
 
 -- "With `R` it runs"
 abbrev pub loadedFor : Bool → ℕ → Core → Core
@@ -114,9 +117,17 @@ lineObeyed (Taken.Refused f) c = refusedAt f c
 lineObeyed (Taken.Line n run) c = writing (Write.Text n) (loadedFor run n c)
 lineObeyed (Taken.Store slot at n) c = writing (Write.Store slot at n) c
 
+-- 02, E3: "It sets only the endless speed"; "such a line with a missing or bad operand gives 3", as an idle unit does, with the place
+abbrev pub speedObeyed : List ℕ → Core → Obeyed
+speedObeyed body c = cond (eqb (lineFault body .code) 0) (silent (withEndless (speedIn body) c)) (refusedAt (lineFault body) c)
+
+-- 02, E3: "is obeyed while an endless move is on", "tested before 15; at all other times 15 stands"
+abbrev pub speedOrBusy : List ℕ → Core → Obeyed
+speedOrBusy body c = cond (isEndless (c .motor .wait) && speedLine body) (speedObeyed body c) (refused busy c)
+
 -- "running, and not immediate nor a resuming `R`" comes before the reading
 abbrev pub lineOrBusy : List ℕ → Core → Obeyed
-lineOrBusy body c = cond (c .running) (refused busy c) (lineObeyed (lineOf body) c)
+lineOrBusy body c = cond (c .running) (speedOrBusy body c) (lineObeyed (lineOf body) c)
 
 abbrev pub kindObeyed : Body → List ℕ → Core → Obeyed
 kindObeyed (Body.Refused f) body c = refusedAt f c

@@ -1,10 +1,12 @@
 // What a body makes of a unit, and what is to be written: before any packet or image is. 01, "Lines" and "What comes back".
+mod speed;
+
 ghost use mathlib.Core.Path.{_≡_};
 ghost use Prim.Native.Nat.{_≤_};
 ghost use Rattle.lines.specs.Bodies.{bodyOf};
-ghost use Rattle.turns.specs.Turns.{started};
+ghost use Rattle.turns.specs.Turns.{withEndless, started};
 ghost use Rattle.obeying.specs.Obeying.{stepSize, placeTold, refusedAt, refused, telling, writing, terminated, immediateObeyed};
-ghost use Rattle.obeying.specs.Obeying.{resumed, runObeyed, againObeyed, loadedFor, lineOrBusy, bodyObeyed};
+ghost use Rattle.obeying.specs.Obeying.{resumed, runObeyed, againObeyed, loadedFor, speedObeyed, speedOrBusy, lineOrBusy, bodyObeyed};
 ghost use Rattle.obeying.specs.Deeds.{BodiesDo};
 use commands::Fault;
 use lines::Body;
@@ -130,6 +132,7 @@ fn obey_immediate(c: Core, i: Immediate) -> Obeyed
         Immediate::Position => hold(c, Tell::Number(m.position)),
         Immediate::Speed => hold(c, Tell::Number(s.speed)),
         Immediate::Sample => hold(c, Tell::Number(wide(m.sample))),
+        Immediate::EndlessSpeed => hold(c, Tell::Number(c.endless)),
         Immediate::StepSize => hold(c, Tell::Number(step_size(s.exponent))),
         Immediate::Correction => hold(c, Tell::Number(s.correction)),
         Immediate::Clear => hold_writing(c, Write::Clear),
@@ -214,13 +217,13 @@ fn run_text(c: Core) -> Core
     turns::start_run(c, f.length)
 }
 
-// A line or a store, where the unit is idle.
+// A line or a store, where the unit is idle; where it runs, none but the endless speed.
 fn obey_line(c: Core, body: &[u8]) -> Obeyed
     requires { ⌜ bodyOf (now body) ≡ Body.Line ⌝ }
     ensures { λ o. ⌜ o ≡ lineOrBusy (now (body .entry)) c ⌝ }
 {
     if c.running {
-        return refuse(c, BUSY);
+        return obey_speed_or_busy(c, body);
     }
     let line = lines::line_of(body);
     match line {
@@ -235,6 +238,40 @@ fn obey_line(c: Core, body: &[u8]) -> Obeyed
             },
         ),
     }
+}
+
+// A line while running.
+fn obey_speed_or_busy(c: Core, body: &[u8]) -> Obeyed
+    ensures { λ o. ⌜ o ≡ speedOrBusy (now (body .entry)) c ⌝ }
+{
+    let m = c.motor;
+    if !motor::is_endless(m) {
+        return refuse(c, BUSY);
+    }
+    if !speed::is_speed_line(body) {
+        return refuse(c, BUSY);
+    }
+    obey_speed(c, body)
+}
+
+// The endless speed set, or the line refused.
+fn obey_speed(c: Core, body: &[u8]) -> Obeyed
+    ensures { λ o. ⌜ o ≡ speedObeyed (now (body .entry)) c ⌝ }
+{
+    let fault = lines::check_line(body);
+    if fault.code == 0 {
+        return hold(set_speed(c, speed::speed_in(body)), Tell::Nothing);
+    }
+    refuse_at(c, fault)
+}
+
+// Only the endless speed set.
+fn set_speed(c: Core, n: u32) -> Core
+    ensures { λ r. ⌜ r ≡ withEndless n c ⌝ }
+{
+    let mut d = c;
+    d.endless = n;
+    d
 }
 
 // A line's text at its beginning: run, or held.

@@ -18,7 +18,7 @@ use Rattle.obeying.specs.declared.Obeyed.{Obeyed}
 use Rattle.drive.specs.Calls.{Turning}
 use Rattle.obeying.specs.Obeying.{bodyObeyed}
 use Rattle.drive.specs.Calls.{receivedBy, bodyBy}
-use Rattle.obeying.specs.Deeds.{Obeys, refuses, tells, stores, clears, stops, resumes, again, loads}
+use Rattle.obeying.specs.Deeds.{Obeys, refuses, tells, stores, clears, stops, resumes, speeds, again, loads}
 use Rattle.obeying.proofs.DeedLaws.{body-does}
 use Rattle.runs.specs.Reach.{Call, Feed, Turn, after, textOf}
 use Rattle.runs.specs.Causes.{Made, Cause, terminate, inTurn, causeCodes}
@@ -40,6 +40,7 @@ module _ (c : Core) (h : c .running ≡ true) where
   obeys-only clears q = clash h q
   obeys-only (stops e r) q = (e, refl)
   obeys-only resumes q = clash h q
+  obeys-only (speeds n s) q = clash h q
   obeys-only (again r) q = clash h r
   obeys-only (loads run n r l) q = clash h r
 

@@ -30,7 +30,7 @@ use Rattle.runs.proofs.SoundLaws.{Sound, SoundUnit}
 use Rattle.runs.proofs.CallLaws.{feed-done}
 use Rattle.runs.proofs.PrintLaws.{checked-printable}
 use Rattle.motor.specs.Deeds.{codeValues}
-use Rattle.obeying.specs.Deeds.{Tells, nothingTold, textTold, positionTold, speedTold, sampleTold, stepSizeTold, correctionTold, Obeys, refuses, tells, stores, clears, stops, resumes, again, loads}
+use Rattle.obeying.specs.Deeds.{Tells, nothingTold, textTold, positionTold, speedTold, sampleTold, endlessTold, stepSizeTold, correctionTold, Obeys, refuses, tells, stores, clears, stops, resumes, speeds, again, loads}
 use Rattle.drive.proofs.AnswerLaws.{packet-fits}
 use Rattle.drive.proofs.FeedLaws.{frame-does}
 use Rattle.runs.proofs.FitLaws.{FitIn, FitUnit}
@@ -68,6 +68,7 @@ module _ (c : Core) (text : List ℕ) (s : Sound (take (c .flow .length) text) c
   tells-good positionTold = number-good (c .motor .position) (omega (arith, s .motor .inRange))
   tells-good speedTold = number-good (c .settings .speed) (h .0 .settings .speed)
   tells-good sampleTold = number-good (c .motor .sample) (omega (arith, h .0 .sample))
+  tells-good endlessTold = number-good (c .endless) (h .0 .endless)
   tells-good stepSizeTold = number-good (stepSize (c .settings .exponent)) (size-most (c .settings .exponent))
   tells-good correctionTold = number-good (c .settings .correction) (h .0 .settings .correction)
 
@@ -84,6 +85,7 @@ module _ (c : Core) (text : List ℕ) (s : Sound (take (c .flow .length) text) c
   obeys-told clears = (nothing-good, h .0 .code)
   obeys-told (stops e r) = (nothing-good, h .0 .code)
   obeys-told resumes = (nothing-good, h .0 .code)
+  obeys-told (speeds n s) = (nothing-good, h .0 .code)
   obeys-told (again r) = (nothing-good, omega arith)
   obeys-told (loads run n r l) =
       (nothing-good, cases (λ (d : Core). d .code < codeValues) run (λ q. omega arith) (λ q. h .0 .code))

@@ -28,7 +28,7 @@ use Rattle.obeying.specs.Obeying.{loadedAs, textWritten}
 use Rattle.drive.specs.Unit.{Drive}
 use Rattle.motor.specs.Deeds.{same}
 use Rattle.keeping.specs.Deeds.{Leads, here, on, over, opens-loop, ends-loop, Does, goes, ends, Steps, keeps-text, enters-text}
-use Rattle.obeying.specs.Deeds.{Obeys, refuses, tells, stores, clears, stops, resumes, again, loads}
+use Rattle.obeying.specs.Deeds.{Obeys, refuses, tells, stores, clears, stops, resumes, speeds, again, loads}
 use Rattle.keeping.specs.Kept.{Kept}
 use Rattle.runs.specs.Reach.{textOf}
 
@@ -81,6 +81,7 @@ obeys-sound text h (stores slot at n i l) = h
 obeys-sound text h clears = h
 obeys-sound text {c = c} h (stops e r) = ended-sound (c .code) c h
 obeys-sound text h resumes = record { flow = h .flow; motor = resumed-ok (h .motor); code-0 = h .code-0 }
+obeys-sound text h (speeds n s) = record { flow = h .flow; motor = h .motor; code-0 = h .code-0 }
 obeys-sound text {c = c} h (again r) = started-sound c (h .flow .checked) (h .flow .length) (h .motor)
 obeys-sound {body} text {c = c} h (loads run n r l) =
     let long : n ≡ length (take n body) = sym (length-take-le n body (l .inside)) in
@@ -109,7 +110,7 @@ ended-amid k c f p = record { flow = f; motor = stopped-within (c .motor) p; cod
 
 does-amid : {steps : ℕ} {t : List ℕ} {c d : Core} → FlowOk t (c .flow) → Counted steps (c .motor) → (c .running ≡ true → c .code ≡ 0)
     → Does steps t c d → Amid t d
-does-amid f m z (goes l o s) = record { flow = leads-ok f l; motor = on-within m o; code-0 = z }
+does-amid f m z (goes l o s e) = record { flow = leads-ok f l; motor = on-within m o; code-0 = z }
 does-amid f m z (ends k l q) = ended-amid k _ (leads-ok f l) (m .inRange)
 
 -- the action answered

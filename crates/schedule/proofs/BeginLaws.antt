@@ -18,7 +18,7 @@ use Rattle.turns.specs.Turns.{withMotor, freshCore, started, ended, jumped, com
 use Rattle.drive.specs.Unit.{Drive}
 use Rattle.obeying.specs.declared.Obeyed.{Obeyed}
 use Rattle.obeying.specs.Obeying.{loadedAs}
-use Rattle.obeying.specs.Deeds.{Obeys, refuses, tells, stores, clears, stops, resumes, again, loads}
+use Rattle.obeying.specs.Deeds.{Obeys, refuses, tells, stores, clears, stops, resumes, speeds, again, loads}
 use Rattle.drive.specs.Calls.{Starting, freshUnit, noUnit, startOf, receivedBy, bodyBy, Turning}
 use Rattle.drive.proofs.FeedLaws.{frame-does}
 use Rattle.runs.specs.Reach.{Call, Feed, Turn, after, textOf}
@@ -75,6 +75,7 @@ obeys-first {c = c} h (stores slot at n i l) = stopped-first c h
 obeys-first {c = c} h clears = stopped-first c h
 obeys-first h (stops e r) = absurd (false≢true (sym h ∙ r))
 obeys-first h resumes = λ z. absurd (false≢true (sym h ∙ z))
+obeys-first h (speeds n s) = λ z. absurd (false≢true (sym h ∙ z))
 obeys-first {c = c} h (again r) = started-first (c .flow .length) c
 obeys-first {c = c} h (loads run n r l) = cases AtFirst run (λ q. started-first n c) (λ q z. absurd (false≢true z))
 

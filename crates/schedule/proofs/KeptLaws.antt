@@ -19,7 +19,7 @@ use Rattle.turns.proofs.TurnLaws.{at-command, at-wait}
 use Rattle.drive.specs.Unit.{Drive}
 use Rattle.obeying.specs.declared.Obeyed.{Obeyed}
 use Rattle.obeying.specs.Obeying.{textWritten}
-use Rattle.obeying.specs.Deeds.{Obeys, refuses, tells, stores, clears, stops, resumes, again, loads}
+use Rattle.obeying.specs.Deeds.{Obeys, refuses, tells, stores, clears, stops, resumes, speeds, again, loads}
 use Rattle.drive.specs.Calls.{receivedBy, bodyBy, Turning}
 use Rattle.drive.proofs.FeedLaws.{frame-does}
 use Rattle.keeping.proofs.TurnLaws.{free}
@@ -42,6 +42,7 @@ obeys-same text h (stores slot at n i l) = (refl, refl)
 obeys-same text h clears = (refl, refl)
 obeys-same text h (stops e r) = (refl, refl)
 obeys-same text h resumes = (refl, refl)
+obeys-same text h (speeds n s) = (refl, refl)
 obeys-same text h (again r) = absurd (false≢true (sym r ∙ h))
 obeys-same text h (loads run n r l) = absurd (false≢true (sym r ∙ h))
 

@@ -35,11 +35,11 @@ use Rattle.drive.proofs.StartLaws.{started-unit}
 use Rattle.drive.specs.Calls.{startOf, receivedBy, textThen, answerTo, turnOf}
 use Rattle.motor.specs.Deeds.{Goes-on, same, waits, less, places}
 use Rattle.keeping.specs.Deeds.{Sets, Does, goes, ends, Steps, keeps-text, enters-text}
-use Rattle.obeying.specs.Deeds.{Tells, nothingTold, textTold, positionTold, speedTold, sampleTold, stepSizeTold, correctionTold}
-use Rattle.obeying.specs.Deeds.{Obeys, refuses, tells, stores, clears, stops, resumes, again, loads}
+use Rattle.obeying.specs.Deeds.{Tells, nothingTold, textTold, positionTold, speedTold, sampleTold, endlessTold, stepSizeTold, correctionTold}
+use Rattle.obeying.specs.Deeds.{Obeys, refuses, tells, stores, clears, stops, resumes, speeds, again, loads}
 use Rattle.keeping.specs.Kept.{Kept, CallsKeep}
 use Rattle.keeping.proofs.CallLaws.{calls-keep}
-use Rattle.keeping.proofs.SettingLaws.{speed-fits, correction-fits}
+use Rattle.keeping.proofs.SettingLaws.{speed-fits, speed-most, endless-fits, correction-fits}
 use Rattle.stream.specs.Steps.{State, Outcome, Quiet, Unanswered, Answer, outcomeOf, bodyIn, obeyedIn, answerIn, stepped, received, byteStep, walkOf}
 use Rattle.stream.specs.Courses.{Event, Byte, Turn, course, afterTurn}
 use Rattle.stream.specs.Fits.{FitsMotor, FitsSettings, FitsCore, Fits}
@@ -72,10 +72,10 @@ settings-fit f d = record { speed = speed-fits d (f .speed); correction = correc
 -- a run's stop leaves the position and the sample
 ended-fits : (code : ℕ) (c : Core) → FitsCore c → FitsCore (ended code c)
 unfolding ended stopped
-ended-fits code c f = record { motor = f .motor; settings = f .settings }
+ended-fits code c f = record { motor = f .motor; settings = f .settings; endless = f .endless }
 
 does-fits : {steps : ℕ} {t : List ℕ} {c d : Core} → FitsCore c → Does steps t c d → FitsCore d
-does-fits f (goes l m s) = record { motor = motor-fits (f .motor) m; settings = settings-fit (f .settings) s }
+does-fits f (goes l m s e) = record { motor = motor-fits (f .motor) m; settings = settings-fit (f .settings) s; endless = endless-fits e (f .endless) (f .settings .speed) }
 does-fits f (ends k l h) = ended-fits k _ f
 
 -- ---- no call takes it away
@@ -91,6 +91,7 @@ unfolding freshCore fresh defaults
 fresh-fits = record {
   motor = record { position = omega arith; sample = omega arith };
   settings = record { speed = omega arith; correction = omega arith };
+  endless = omega arith;
 }
 
 obeys-fits : {body : List ℕ} (text : List ℕ) {c : Core} {o : Obeyed} → FitsIn text c → Obeys body c o → FitsIn (textWritten (o .write) body text) (o .core)
@@ -101,6 +102,7 @@ obeys-fits text f (stores slot at n i l) = f
 obeys-fits text f clears = f
 obeys-fits text f (stops e r) = record { text = f .text; core = ended-fits _ _ (f .core) }
 obeys-fits text f resumes = f
+obeys-fits text f (speeds n s) = record { text = f .text; core = record { motor = f .core .motor; settings = f .core .settings; endless = speed-most n (s .in-range) } }
 obeys-fits text f (again r) = f
 obeys-fits {body} text f (loads run n r l) = record { text = padded-fits (take n body); core = cases FitsCore run (λ q. f .core) (λ q. f .core) }
 
@@ -114,7 +116,7 @@ fits-kept = record {
   fresh = record { text = padded-fits []; core = fresh-fits };
   obeys = λ {body} {text} h d. obeys-fits text h d;
   turns = λ {sample} {steps} {text} {image} {c} f l r d. steps-fits text
-      (record { text = f .text; core = record { motor = reported-fits sample steps (c .motor) (omega arith) (f .core .motor); settings = f .core .settings } }) d;
+      (record { text = f .text; core = record { motor = reported-fits sample steps (c .motor) (omega arith) (f .core .motor); settings = f .core .settings; endless = f .core .endless } }) d;
 }
 
 pub start-fits : (number : ℕ) (image body text : List ℕ) → startOf number image body text .answer ≡ StartAnswer.Started
@@ -143,6 +145,7 @@ tells-fits f textTold = tt
 tells-fits f positionTold = f .motor .position
 tells-fits f speedTold = f .settings .speed
 tells-fits f sampleTold = f .motor .sample
+tells-fits f endlessTold = f .endless
 tells-fits {c} f stepSizeTold = step-size-fits (c .settings .exponent)
 tells-fits f correctionTold = f .settings .correction
 
@@ -157,6 +160,7 @@ told-fits f (stores slot at n i l) = tt
 told-fits f clears = tt
 told-fits f (stops e r) = tt
 told-fits f resumes = tt
+told-fits f (speeds n s) = tt
 told-fits f (again r) = tt
 told-fits f (loads run n r l) = tt
 

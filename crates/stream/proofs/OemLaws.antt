@@ -12,7 +12,7 @@ use Rattle.parts.proofs.Laws.{cases}
 use Rattle.answers.specs.Packet.{packetBytes, statusOf}
 use Rattle.commands.specs.Table as table
 use Rattle.lines.specs.declared.Immediate.{Immediate}
-use Rattle.lines.specs.declared.Immediate.the-variants.{Terminate, Status, CurrentText, Position, Speed, Sample, StepSize, Correction, Clear}
+use Rattle.lines.specs.declared.Immediate.the-variants.{Terminate, Status, CurrentText, Position, Speed, Sample, EndlessSpeed, StepSize, Correction, Clear}
 use Rattle.lines.specs.declared.Body.{Body}
 use Rattle.lines.specs.Bodies.{bodyOf}
 use Rattle.image.specs.Image.{rightLength, slots, slotsGood}
@@ -113,6 +113,7 @@ immediate-tells CurrentText c e = record { told = Tell.Text; tells = refl }
 immediate-tells Position c e = record { told = Tell.Number _; tells = refl }
 immediate-tells Speed c e = record { told = Tell.Number _; tells = refl }
 immediate-tells Sample c e = record { told = Tell.Number _; tells = refl }
+immediate-tells EndlessSpeed c e = record { told = Tell.Number _; tells = refl }
 immediate-tells StepSize c e = record { told = Tell.Number _; tells = refl }
 immediate-tells Correction c e = record { told = Tell.Number _; tells = refl }
 immediate-tells Clear c e = absurd (true≢false (sym e))

@@ -36,29 +36,33 @@ use Rattle.turns.specs.Settings.{defaults, withSetting}
 
 -- ---- the core of a unit's record: all but its number, its receiver and its text
 
-abbrev pub core : Flow → Motor → Settings → Bool → Bool → ℕ → Core
-core f m s running loaded code = record { flow = f; motor = m; settings = s; running = running; loaded = loaded; code = code }
+abbrev pub core : Flow → Motor → Settings → Bool → Bool → ℕ → ℕ → Core
+core f m s running loaded code endless = record { flow = f; motor = m; settings = s; running = running; loaded = loaded; code = code; endless = endless }
 
 abbrev pub withFlow : Flow → Core → Core
-withFlow f c = core f (c .motor) (c .settings) (c .running) (c .loaded) (c .code)
+withFlow f c = core f (c .motor) (c .settings) (c .running) (c .loaded) (c .code) (c .endless)
 
 abbrev pub withMotor : Motor → Core → Core
-withMotor m c = core (c .flow) m (c .settings) (c .running) (c .loaded) (c .code)
+withMotor m c = core (c .flow) m (c .settings) (c .running) (c .loaded) (c .code) (c .endless)
 
 abbrev pub withSettings : Settings → Core → Core
-withSettings s c = core (c .flow) (c .motor) s (c .running) (c .loaded) (c .code)
+withSettings s c = core (c .flow) (c .motor) s (c .running) (c .loaded) (c .code) (c .endless)
 
--- a fresh unit: idle, its text empty
+-- 02, E3: "only the endless speed, new in the unit's record"
+abbrev pub withEndless : ℕ → Core → Core
+withEndless speed c = core (c .flow) (c .motor) (c .settings) (c .running) (c .loaded) (c .code) speed
+
+-- a fresh unit: idle, its text empty; the endless speed is "0 before the first endless move"
 unfoldable pub freshCore : Core
-freshCore = core (begun 0) fresh defaults false false 0
+freshCore = core (begun 0) fresh defaults false false 0 0
 
 -- a run starts on a text of so many bytes; the held code is "set to 0 when a run starts"
 unfoldable pub started : ℕ → Core → Core
-started n c = core (begun n) (c .motor) (c .settings) true false 0
+started n c = core (begun n) (c .motor) (c .settings) true false 0 (c .endless)
 
 -- a run ends, the held code is "set by a fault stop"
 unfoldable pub ended : ℕ → Core → Core
-ended code c = core (c .flow) (stopped (c .motor)) (c .settings) false (c .loaded) code
+ended code c = core (c .flow) (stopped (c .motor)) (c .settings) false (c .loaded) code (c .endless)
 
 -- what only a text that was never checked could come to: the run ends, the held code stays
 unfoldable pub astray : Core → Core
@@ -70,11 +74,20 @@ abbrev pub moved : Moved → Core → Core
 moved (Goes m) c = withMotor m c
 moved (Stops code) c = ended code c
 
+-- 02, E3: "a new `P0` or `D0` starts it from `V`", where it is taken and does not stop the run
+abbrev pub speedAfter : ℕ → Moved → Core → ℕ
+speedAfter n (Goes m) c = cond (eqb n 0) (c .settings .speed) (c .endless)
+speedAfter n (Stops code) c = c .endless
+
+-- `P n` and `D n`
+abbrev pub movedBy : ℕ → Moved → Core → Core
+movedBy n r c = withEndless (speedAfter n r c) (moved r c)
+
 -- a plain command, behind which the flow stands already
 unfoldable pub acted : Act → Core → Core
 acted (MoveTo n) c = moved (ifKnown (c .motor) (absolute n (c .motor))) c
-acted (MoveUp n) c = moved (ifKnown (c .motor) (relative true n (c .motor))) c
-acted (MoveDown n) c = moved (ifKnown (c .motor) (relative false n (c .motor))) c
+acted (MoveUp n) c = movedBy n (ifKnown (c .motor) (relative true n (c .motor))) c
+acted (MoveDown n) c = movedBy n (ifKnown (c .motor) (relative false n (c .motor))) c
 acted (SetPosition n) c = withMotor (placedAt n (c .motor)) c
 acted (Home n) c = withMotor (homed (c .settings .flag) n (c .motor)) c
 acted (Set which n) c = withSettings (withSetting which n (c .settings)) c

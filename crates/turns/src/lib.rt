@@ -17,6 +17,8 @@ pub struct Core {
     pub loaded: bool,
     // The held code.
     pub code: u8,
+    // The speed of the endless move that is on, or of the last one; 0 before the first.
+    pub endless: u32,
     pub settings: Settings,
     pub motor: Motor,
     pub flow: Flow,
@@ -56,6 +58,7 @@ pub fn fresh_core() -> Core
         running: false,
         loaded: false,
         code: 0,
+        endless: 0,
     }
 }
 

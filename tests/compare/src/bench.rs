@@ -299,6 +299,7 @@ impl Bench {
             Some(number) => say!(out, " last={number}"),
             None => say!(out, " last=-"),
         }
+        say!(out, " speed={}", unit.endless_speed());
         say!(out, " text=");
         write_hex(unit.text(), out);
     }

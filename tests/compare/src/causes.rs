@@ -1,7 +1,6 @@
 //! What a body is refused for, by name, so that a comparison can say that all
 //! of it occurred: each cause of paper 02, E6, alone and left of another.
 
-use crate::bench::read_hex_field;
 use crate::command::{self, Misread};
 use crate::line;
 use crate::structure::{Cause, Structure};
@@ -31,26 +30,6 @@ pub const NAMES: &[&str] = &[
     "a missing R behind 256 bytes",
     "place 256",
 ];
-
-/// The body that an operation hands over, if it is `line` or one frame alone,
-/// and which of both it is.
-pub fn body_of(operation: &[u8]) -> Option<(&'static str, Vec<u8>)> {
-    let alone = |body: &[u8]| !body.iter().any(|byte| b"/\r\x02\x03".contains(byte));
-    if let Some(hex) = operation.strip_prefix(b"line ") {
-        return Some(("line", read_hex_field(hex)?));
-    }
-    let frame = if let Some(hex) = operation.strip_prefix(b"feed ") {
-        match &read_hex_field(hex)?[..] {
-            [b'/', _, body @ .., b'\r'] | [0x02, _, _, body @ .., 0x03, _] => body.to_vec(),
-            _ => return None,
-        }
-    } else if let Some(fields) = operation.strip_prefix(b"oem ") {
-        fields.get(3..)?.to_vec()
-    } else {
-        operation.strip_prefix(b"/")?.get(1..)?.to_vec()
-    };
-    alone(&frame).then_some(("frame", frame))
-}
 
 /// What an idle unit refuses this body for; the first is why.
 pub fn names(body: &[u8]) -> Vec<&'static str> {
@@ -176,20 +155,6 @@ mod tests {
         ] {
             assert_eq!(names(body.as_bytes()), expected, "{body}");
             assert!(expected.iter().all(|name| NAMES.contains(name)));
-        }
-    }
-
-    #[test]
-    fn bodies() {
-        let body_of = |operation: &str| body_of(operation.as_bytes());
-        let found = |word, body: &[u8]| Some((word, body.to_vec()));
-        assert_eq!(body_of("line 41"), found("line", b"A"));
-        assert_eq!(body_of("/1A5R"), found("frame", b"A5R"));
-        assert_eq!(body_of("oem 31 A5R"), found("frame", b"A5R"));
-        assert_eq!(body_of("feed 2f3141350d"), found("frame", b"A5"));
-        assert_eq!(body_of("feed 023131410300"), found("frame", b"A"));
-        for none in ["feed 2f3141", "feed 2f312f310d", "/1/1", "unit", "line 4", "/"] {
-            assert_eq!(body_of(none), None, "{none}");
         }
     }
 }

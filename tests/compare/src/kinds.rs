@@ -5,6 +5,8 @@ use std::collections::BTreeMap;
 
 use crate::bench::Bench;
 use crate::causes;
+use crate::handed::Handed;
+use crate::speed;
 use crate::turn::{Leg, Wait};
 use crate::unit::Unit;
 use crate::Code;
@@ -39,6 +41,7 @@ const ANSWERS: &[&str] = &[
     "feed: busy 0 with data",
     "feed: busy 2",
     "feed: busy 2 with data",
+    "feed: busy 3 with data",
     "feed: busy 15",
     "typed: no unit",
     "typed: refused buffer",
@@ -59,6 +62,7 @@ const ANSWERS: &[&str] = &[
     "typed: busy 0 with data",
     "typed: busy 2",
     "typed: busy 2 with data",
+    "typed: busy 3 with data",
     "typed: busy 15",
     "feed: oem idle 0",
     "feed: oem idle 0 with data",
@@ -75,6 +79,7 @@ const ANSWERS: &[&str] = &[
     "feed: oem busy 0 with data",
     "feed: oem busy 2",
     "feed: oem busy 2 with data",
+    "feed: oem busy 3 with data",
     "feed: oem busy 15",
     "oem: no unit",
     "oem: refused buffer",
@@ -95,6 +100,7 @@ const ANSWERS: &[&str] = &[
     "oem: busy 0 with data",
     "oem: busy 2",
     "oem: busy 2 with data",
+    "oem: busy 3 with data",
     "oem: busy 15",
     "turn: no unit",
     "turn: refused image-length",
@@ -175,6 +181,7 @@ const EVENTS: &[&str] = &[
     "frame: T ends a run",
     "frame: T ends a move",
     "frame: T ends a homing",
+    "frame: the endless speed changes",
     "turn: idle",
     "turn: end of text",
     "turn: end of an empty text",
@@ -225,6 +232,19 @@ const EVENTS: &[&str] = &[
     "leg toward: goes on",
     "leg toward: ends",
     "leg toward: stops with 1",
+    "speed line: idle",
+    "speed line: obeyed in an endless move",
+    "speed line: refused with 3 in an endless move",
+    "speed line: refused with 15 in a move",
+    "speed line: refused with 15 in a homing",
+    "speed line: refused with 15 in a delay",
+    "speed line: refused with 15 at an input",
+    "speed line: refused with 15 between waits",
+    "?5: 0",
+    "?5: as V",
+    "?5: another than V",
+    "?5: in an endless move",
+    "?5: afresh",
     "delay: goes on",
     "delay: ends",
     "input: goes on",
@@ -324,10 +344,9 @@ fn fault(word: &str, name: &str) -> String {
 /// The kinds of what an idle unit refuses a body for, as [`all`] names them,
 /// where the kind of the answer tells that it does.
 pub fn of_fault(operation: &[u8], kind: &str) -> Vec<String> {
-    let operation = operation.strip_suffix(b"\r").unwrap_or(operation);
     let refused = ["idle 2", "idle 3", "line: 2", "line: 3"].iter().any(|part| kind.contains(part));
-    match causes::body_of(operation) {
-        Some((word, body)) if refused => {
+    match Handed::of(operation) {
+        Some(Handed { word, body, .. }) if refused => {
             causes::names(&body).into_iter().map(|name| fault(word, name)).collect()
         }
         _ => Vec::new(),
@@ -401,6 +420,9 @@ pub struct Glance {
     next: usize,
     code: Code,
     loaded: bool,
+    speed: u32,
+    endless_speed: u32,
+    last: Option<u8>,
     text_length: usize,
     image: u64,
 }
@@ -414,6 +436,9 @@ impl Glance {
             next: unit.next,
             code: unit.code,
             loaded: unit.loaded,
+            speed: unit.settings.speed,
+            endless_speed: unit.endless_speed,
+            last: unit.last(),
             text_length: unit.text().len(),
             image: weigh(bench.image()),
         })
@@ -450,6 +475,50 @@ pub fn of_event(
     Some(format!("event: {event}"))
 }
 
+/// The kinds of what came of a speed line or of `?5`, as [`all`] names them,
+/// from the kind of the answer: paper 02, E3.
+pub fn of_speed(operation: &[u8], kind: &str, before: Option<Glance>) -> Vec<String> {
+    let told = kind.split_once("idle ").or(kind.split_once("busy "));
+    let (Some(before), Some(handed), Some((_, told))) = (before, Handed::of(operation), told) else {
+        return Vec::new();
+    };
+    let names = match &handed.body[..] {
+        b"?5" => of_asked_speed(before, handed.sequence),
+        body if speed::is_speed_line(body) && handed.sequence.is_none() => {
+            of_speed_line(before.phase, told).into_iter().collect()
+        }
+        _ => Vec::new(),
+    };
+    names.iter().map(|name| format!("event: {name}")).collect()
+}
+
+fn of_asked_speed(before: Glance, sequence: Option<u8>) -> Vec<&'static str> {
+    let value = match before.endless_speed {
+        0 => "?5: 0",
+        speed if speed == before.speed => "?5: as V",
+        _ => "?5: another than V",
+    };
+    let repeats = sequence.is_some_and(|byte| byte & 8 != 0 && before.last == Some(byte & 7));
+    let mut names = vec![value];
+    names.extend((before.phase == Phase::Endless).then_some("?5: in an endless move"));
+    names.extend(repeats.then_some("?5: afresh"));
+    names
+}
+
+fn of_speed_line(phase: Phase, told: &str) -> Option<&'static str> {
+    Some(match (phase, told) {
+        (Phase::Idle, _) => "speed line: idle",
+        (Phase::Endless, "0") => "speed line: obeyed in an endless move",
+        (Phase::Endless, "3 with data") => "speed line: refused with 3 in an endless move",
+        (Phase::Move, "15") => "speed line: refused with 15 in a move",
+        (Phase::Away | Phase::Toward, "15") => "speed line: refused with 15 in a homing",
+        (Phase::Delay, "15") => "speed line: refused with 15 in a delay",
+        (Phase::Input, "15") => "speed line: refused with 15 at an input",
+        (Phase::Command(_) | Phase::End, "15") => "speed line: refused with 15 between waits",
+        _ => return None,
+    })
+}
+
 fn of_frame(before: Glance, after: Glance) -> Option<&'static str> {
     Some(match (before.phase, after.phase) {
         _ if before.image != after.image => "frame: the image changes",
@@ -460,6 +529,9 @@ fn of_frame(before: Glance, after: Glance) -> Option<&'static str> {
         (Phase::Move | Phase::Endless, Phase::Idle) => "frame: T ends a move",
         (_, Phase::Idle) => "frame: T ends a run",
         (Phase::Input, Phase::Command(_) | Phase::End) => "frame: R ends a wait at H",
+        (Phase::Endless, Phase::Endless) if before.endless_speed != after.endless_speed => {
+            "frame: the endless speed changes"
+        }
         _ => return None,
     })
 }

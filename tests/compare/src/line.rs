@@ -2,6 +2,7 @@
 
 use crate::command;
 use crate::fault::Fault;
+use crate::speed;
 use crate::structure::Structure;
 use crate::{Code, BODY};
 
@@ -10,10 +11,12 @@ use crate::{Code, BODY};
 pub enum Drive {
     /// No run.
     Idle,
-    /// In a run that does not wait at `H`.
+    /// In a run that neither waits at `H` nor turns endlessly.
     Running,
     /// In a run that waits at `H`.
     AtInput,
+    /// In a run, "while an endless move is on".
+    Endless,
 }
 
 /// A body that is taken.
@@ -27,9 +30,11 @@ pub enum Body<'a> {
     Again,
     /// Commands, or a slot and its text.
     Line(Line<'a>),
+    /// E3: a new endless speed.
+    EndlessSpeed(u32),
 }
 
-/// "`T`, `TR`, `Q`, `$`, `?0 ?2 ?4 ?6 ?7 ?9`"
+/// "`T`, `TR`, `Q`, `$`, `?0 ?2 ?4 ?6 ?7 ?9`", and E3's `?5`
 #[derive(Clone, Copy, Debug, PartialEq, Eq)]
 pub enum Immediate {
     /// `T`, `TR`
@@ -44,6 +49,8 @@ pub enum Immediate {
     Speed,
     /// `?4`
     Sample,
+    /// `?5`
+    EndlessSpeed,
     /// `?6`
     Resolution,
     /// `?7`
@@ -73,6 +80,11 @@ pub fn check(body: &[u8], drive: Drive) -> Result<Body<'_>, Fault> {
         // "A body that begins like an immediate one and is none has place 1".
         return immediate(body).map(Body::Immediate).ok_or(Fault::after(0, Code::Letter));
     }
+    // "such a line with a missing or bad operand gives 3, tested before 15; at
+    // all other times 15 stands."
+    if drive == Drive::Endless && speed::is_speed_line(body) {
+        return speed::read(body).map(Body::EndlessSpeed);
+    }
     let resumes = body == b"R" && drive == Drive::AtInput;
     if drive != Drive::Idle && !resumes {
         return Err(Fault::nowhere(Code::Busy));
@@ -97,6 +109,7 @@ fn immediate(body: &[u8]) -> Option<Immediate> {
         b"?0" => Immediate::Position,
         b"?2" => Immediate::Speed,
         b"?4" => Immediate::Sample,
+        b"?5" => Immediate::EndlessSpeed,
         b"?6" => Immediate::Resolution,
         b"?7" => Immediate::Offset,
         b"?9" => Immediate::ClearAll,
@@ -177,13 +190,13 @@ mod tests {
 
     #[test]
     fn immediate_bodies() {
-        for body in ["", "T", "TR", "Q", "$", "?0", "?2", "?4", "?6", "?7", "?9"] {
-            for drive in [Drive::Idle, Drive::Running, Drive::AtInput] {
+        for body in ["", "T", "TR", "Q", "$", "?0", "?2", "?4", "?5", "?6", "?7", "?9"] {
+            for drive in [Drive::Idle, Drive::Running, Drive::AtInput, Drive::Endless] {
                 judged(body, drive, 0);
             }
         }
-        for body in ["TT", "TRR", "T1", "QR", "QA", "$R", "?", "?1", "?3", "?5", "?8", "?00", "?9R"] {
-            for drive in [Drive::Idle, Drive::Running, Drive::AtInput] {
+        for body in ["TT", "TRR", "T1", "QR", "QA", "$R", "?", "?1", "?3", "?5R", "?8", "?00", "?9R"] {
+            for drive in [Drive::Idle, Drive::Running, Drive::AtInput, Drive::Endless] {
                 judged(body, drive, 2);
             }
         }
@@ -194,11 +207,30 @@ mod tests {
         for body in ["X", "A5R", "A5", "s0R", "zzz", "A", "s", "\n", "RR", "g"] {
             judged(body, Drive::Running, 15);
             judged(body, Drive::AtInput, 15);
+            judged(body, Drive::Endless, 15);
         }
+        judged("R", Drive::Endless, 15);
         judged("R", Drive::Running, 15);
         judged("R", Drive::AtInput, 0);
         judged(&"A".repeat(257), Drive::Running, 2);
         judged(&"A".repeat(256), Drive::Running, 15);
+    }
+
+    #[test]
+    fn speed_while_turning() {
+        assert_eq!(check(b"V0777R", Drive::Endless), Ok(Body::EndlessSpeed(777)));
+        for body in ["VR", "V0R", "V16777217R"] {
+            let fault = Fault::after(0, Code::Operand);
+            assert_eq!(check(body.as_bytes(), Drive::Endless), Err(fault), "{body}");
+        }
+        for body in ["V5", "V5RR", "V5P0R", "V", "L5R", "V5V6R"] {
+            judged(body, Drive::Endless, 15);
+        }
+        for body in ["V5R", "VR", "V0R"] {
+            judged(body, Drive::Running, 15);
+            judged(body, Drive::AtInput, 15);
+        }
+        assert!(matches!(check(b"V5R", Drive::Idle), Ok(Body::Line(_))));
     }
 
     #[test]

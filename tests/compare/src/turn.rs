@@ -338,6 +338,10 @@ impl Unit {
         if left > room {
             return self.stop(Code::Range);
         }
+        if endless {
+            // "a new `P0` or `D0` starts it from `V`"
+            self.endless_speed = self.settings.speed;
+        }
         self.wait_for_move(Move { direction, left, endless })
     }
 

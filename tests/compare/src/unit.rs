@@ -89,6 +89,8 @@ pub struct Unit {
     pub(crate) wait: Wait,
     /// "the last action answered".
     pub(crate) motion: Motion,
+    /// E3: "the endless speed, new in the unit's record".
+    pub(crate) endless_speed: u32,
     /// The number "of the last OEM frame for this unit or its groups not
     /// refused (at start there is none)".
     last: Option<u8>,
@@ -170,6 +172,7 @@ impl Unit {
             loops: Loops::default(),
             wait: Wait::Nothing,
             motion: Motion::STILL,
+            endless_speed: 0,
             last: None,
         }
     }
@@ -221,6 +224,7 @@ impl Unit {
             Some(b"?0") => Data::Number(self.position.number),
             Some(b"?2") => Data::Number(self.settings.speed),
             Some(b"?4") => Data::Number(self.sample.into()),
+            Some(b"?5") => Data::Number(self.endless_speed),
             Some(b"?6") => Data::Number(1 << self.settings.resolution),
             Some(b"?7") => Data::Number(self.settings.offset.into()),
             _ => Data::Nothing,
@@ -233,6 +237,7 @@ impl Unit {
         match line::check(body, self.drive())? {
             Body::Immediate(immediate) => return Ok(self.immediate(immediate, image)),
             Body::Again => self.begin(),
+            Body::EndlessSpeed(speed) => self.endless_speed = speed,
             Body::Go => self.go(),
             Body::Line(Line { slot: Some(slot), text, .. }) => image::store(image, slot.into(), text),
             Body::Line(Line { slot: None, text, run }) => {
@@ -251,6 +256,7 @@ impl Unit {
         match (self.running, self.wait) {
             (false, _) => Drive::Idle,
             (true, Wait::Input(_)) => Drive::AtInput,
+            (true, Wait::Move(on)) if on.is_endless() => Drive::Endless,
             (true, _) => Drive::Running,
         }
     }
@@ -266,6 +272,7 @@ impl Unit {
             Immediate::Position => Data::Number(self.position.number),
             Immediate::Speed => Data::Number(self.settings.speed),
             Immediate::Sample => Data::Number(self.sample.into()),
+            Immediate::EndlessSpeed => Data::Number(self.endless_speed),
             Immediate::Resolution => Data::Number(1 << self.settings.resolution),
             Immediate::Offset => Data::Number(self.settings.offset.into()),
             Immediate::ClearAll => {
@@ -327,6 +334,11 @@ impl Unit {
     /// The number of the last OEM frame that was not refused.
     pub fn last(&self) -> Option<u8> {
         self.last
+    }
+
+    /// The endless speed: "0 before the first endless move".
+    pub fn endless_speed(&self) -> u32 {
+        self.endless_speed
     }
 
     /// The unit's number.

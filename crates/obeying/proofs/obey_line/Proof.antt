@@ -7,7 +7,7 @@ use Rattle.obeying.proofs.obey_line.Statement.{statement}
 use Rattle.obeying.proofs.obey_line.Tie as tie
 
 returns : tie.Need-returns
-returns c = simp (c .refuse .ensures, c .before .if1 .taken)
+returns c = simp (c .obey-speed-or-busy .ensures, c .before .if1 .taken)
 
 refuse-at-requires : tie.Need-refuse-at-requires
 refuse-at-requires c κs =

@@ -32,8 +32,8 @@ impl Lines<'_> {
     pub fn faulty(&mut self) -> Vec<u8> {
         match self.random.below(20) {
             0..=5 => self.astray(),
-            6..=11 => self.stored_astray(),
-            12..=16 => self.misread(),
+            6..=10 => self.stored_astray(),
+            11..=15 => self.misread(),
             _ => self.full(),
         }
     }
@@ -96,7 +96,7 @@ impl Lines<'_> {
     /// A body of about 256 bytes whose one fault stands at its end, or is that
     /// it has no `R`.
     fn full(&mut self) -> Vec<u8> {
-        let length = self.random.pick(&[99, 100, 254, 255, 256, 256, 256]);
+        let length = self.random.pick(&[99, 100, 255, 256, 256, 256, 256]);
         if self.random.chance(40) {
             let slot = self.slot().to_string();
             let zeros = "0".repeat(length - 1 - slot.len());

@@ -9,10 +9,15 @@ const PLAIN: &[u8] = b"AAAAPPPPPDDDDDzzzZZZZZVLffFFmhjoJbMMMMHHHHeee";
 /// Bytes that a damaged line may get.
 const BYTES: &[u8] = b"APDzZVLfFmhjoJbMgGHSeRXsTQ$?0123456789/ \n\r\0\x03~";
 /// Immediate bodies.
-const IMMEDIATE: &[&str] = &["T", "TR", "Q", "", "$", "?0", "?2", "?4", "?6", "?7", "?9"];
+const IMMEDIATE: &[&str] = &["T", "TR", "Q", "", "$", "?0", "?2", "?4", "?5", "?5", "?6", "?7", "?9"];
 /// Bodies that begin as immediate ones do.
 const NOT_IMMEDIATE: &[&str] = &[
-    "?", "?1", "?3", "?5", "?8", "?00", "?0R", "?9R", "TT", "TRR", "T0", "T ", "QR", "QQ", "$R", "$$", "TA5R",
+    "?", "?1", "?3", "?5R", "?55", "?8", "?00", "?0R", "?9R", "TT", "TRR", "T0", "T ", "QR", "QQ", "$R",
+    "$$", "TA5R",
+];
+/// Bodies that are nearly a speed line.
+const NEARLY_SPEED: &[&str] = &[
+    "V", "V5", "V5RR", "V5P0R", "V5L5R", "V5V6R", "V5 R", "V-5R", "V+5R", "V R", "v5R", "L5R", "RV5R", "V5TR",
 ];
 /// Short bodies at the edges of the rules.
 const EDGES: &[&str] = &[
@@ -339,6 +344,17 @@ impl Lines<'_> {
     /// An immediate body, a query more often than the others.
     pub fn immediate(&mut self) -> Vec<u8> {
         self.random.pick(IMMEDIATE).as_bytes().to_vec()
+    }
+
+    /// `V`, digits or none, and `R`; at times a body that is nearly that.
+    pub fn speed_line(&mut self) -> Vec<u8> {
+        let digits = match self.random.below(10) {
+            0..=4 => self.word(b'V').digits,
+            5..=7 => self.bad_digits(b'V'),
+            8 => Vec::new(),
+            _ => return self.random.pick(NEARLY_SPEED).as_bytes().to_vec(),
+        };
+        [b"V", &digits[..], b"R"].concat()
     }
 
     /// A body that no drive takes, or only just.

@@ -30,7 +30,7 @@ pub struct Rare<'a> {
 impl Rare<'_> {
     /// One of them.
     pub fn script(&mut self) -> Script {
-        match self.below(128) {
+        match self.below(144) {
             0..=19 => self.deep_loops(),
             20 => self.many_times(),
             21..=23 => self.long_feed(),
@@ -44,6 +44,7 @@ impl Rare<'_> {
             97..=113 => self.seen_buffer(),
             114 => self.image_length(),
             115..=126 => self.refused(),
+            127..=142 => self.turning(),
             _ if self.below(3) == 0 => self.longest_body(),
             _ => vec![b"help".to_vec()],
         }
@@ -264,18 +265,51 @@ impl Rare<'_> {
             1 => self.pick(&["?1", "TT", "QR", "$$"]).into(),
             _ => self.lines.faulty(),
         };
-        let address = 0x30 + self.number;
-        let mut frame = [&[0x02, address, 0x31], &body[..], &[0x03]].concat();
-        frame.push(checksum(&frame));
         let first = if self.below(3) == 0 { "M30000R" } else { "Q" };
-        vec![
-            self.frame(first.as_bytes()),
-            self.frame(&body),
+        let mut script = vec![self.frame(first.as_bytes())];
+        script.extend(self.framings(0x31, &body));
+        script.push(b"unit".to_vec());
+        script
+    }
+
+    /// A body in each framing.
+    fn framings(&self, sequence: u8, body: &[u8]) -> [Vec<u8>; 4] {
+        let address = 0x30 + self.number;
+        let mut frame = [&[0x02, address, sequence], body, &[0x03]].concat();
+        frame.push(checksum(&frame));
+        [
+            self.frame(body),
             with_hex("feed", &frame),
-            [&[b'/', address], &body[..]].concat(),
-            [b"oem 32 ", &body[..]].concat(),
-            b"unit".to_vec(),
+            [&[b'/', address], body].concat(),
+            [format!("oem {sequence:02x} ").as_bytes(), body].concat(),
         ]
+    }
+
+    /// Speed lines while an endless move is on, or in another wait.
+    fn turning(&mut self) -> Script {
+        let endless = self.below(3) > 0;
+        let line = if endless {
+            self.pick(&["z50P0P0R", "z50D0D0R", "D0R", "V77P0V78D0R", "gP0G2R", "z50F1P0R"])
+        } else {
+            self.pick(&["P90000R", "z9A3000R", "M30000R", "Z3000R", "H01R", "f1Z3000R"])
+        };
+        let turn = b"turn 15 1 0".to_vec();
+        let mut script = vec![self.frame(line.as_bytes())];
+        script.extend(vec![turn; 1 + self.lines.random.under(3)]);
+        for _ in 0..2 + self.below(4) {
+            let asks = self.below(4) == 0;
+            let body = if asks { b"?5".to_vec() } else { self.lines.speed_line() };
+            let sequence = 0x30 + self.below(16) as u8;
+            let place = self.lines.random.under(4);
+            script.push(self.framings(sequence, &body)[place].clone());
+            // Steps, and at times the edge.
+            let after = self.pick(&["unit", "unit", "turn 15 1 1", "turn 15 1 0", "turn 13 1 1", ""]);
+            script.extend((!after.is_empty()).then(|| after.into()));
+        }
+        // The edge, and perhaps another endless move.
+        let turns = ["turn 15 1 0", "turn 13 1 0", "turn 15 1 0", "turn 15 1 0", "unit"];
+        script.extend(turns.iter().map(|&operation| operation.into()));
+        script
     }
 
     /// An image of another length, from 512 on.
@@ -342,6 +376,17 @@ mod tests {
         for _ in 0..200 {
             let told = answers(&rare(&mut random).refused());
             assert_eq!(told[3], told[4]);
+        }
+    }
+
+    #[test]
+    fn speeds_are_set() {
+        let mut random = Random::new(6);
+        let told: Vec<String> = (0..300).flat_map(|_| answers(&rare(&mut random).turning())).collect();
+        for part in
+            [" speed=0 ", " speed=77 ", " speed=78 ", " speed=305175 ", " speed=16777216 ", "busy 3 1"]
+        {
+            assert!(told.iter().any(|answer| answer.contains(part)), "{part}");
         }
     }
 

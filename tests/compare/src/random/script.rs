@@ -214,7 +214,7 @@ const BESIDE: &[(u64, Choice)] = &[
     (3, Choice::Store),
     (3, Choice::Buffer),
     (8, Choice::Run),
-    (8, Choice::Rare),
+    (14, Choice::Rare),
     (13, Choice::Unreadable),
 ];
 
@@ -246,6 +246,7 @@ impl Round {
         self.feed_again(&operation, &answer);
         let kind = kinds::of_answer(&operation, &answer);
         let mut events = kinds::of_fault(&operation, &kind);
+        events.extend(kinds::of_speed(&operation, &kind, before));
         events.extend(kinds::of_event(&operation, &answer, before, after));
         Step { operation, answer, begins, kind, events }
     }
@@ -498,6 +499,12 @@ impl Round {
     fn frame_body(&mut self) -> Vec<u8> {
         let running = self.bench.unit().is_some_and(Unit::is_running);
         let waiting = self.bench.unit().is_some_and(|unit| unit.awaited().is_some());
+        if running && self.random.chance(if self.turns_endlessly() { 40 } else { 8 }) {
+            if self.random.chance(25) {
+                self.queue.push_back(b"unit".to_vec());
+            }
+            return self.random_speed();
+        }
         let place = self.random.below(100);
         let mut lines = self.lines();
         match (running, place) {
@@ -517,6 +524,20 @@ impl Round {
             (false, 35..=42) => lines.line(false),
             (false, 43..=47) => lines.body(),
             (false, _) => lines.line(true),
+        }
+    }
+
+    /// Whether an endless move is on.
+    fn turns_endlessly(&self) -> bool {
+        self.bench.unit().is_some_and(|unit| matches!(unit.wait(), Wait::Move(on) if on.is_endless()))
+    }
+
+    /// A speed line, or what asks for the speed.
+    fn random_speed(&mut self) -> Vec<u8> {
+        if self.random.chance(25) {
+            b"?5".to_vec()
+        } else {
+            self.lines().speed_line()
         }
     }
 

@@ -35,8 +35,8 @@ act-spec =
     (λ c κs. search needs)
     (λ c κs. search needs)
     (λ c. simp (c .move-on .ensures, c .before .move-to .ensures, c .before .before .before .a .given .1))
-    (λ c. simp (c .move-on2 .ensures, c .before .move-by .ensures, c .before .before .before .a2 .given .1))
-    (λ c. simp (c .move-on3 .ensures, c .before .move-by2 .ensures, c .before .before .before .a3 .given .1))
+    (λ c. simp (c .move-on-by .ensures, c .before .move-by .ensures, c .before .before .before .a2 .given .1))
+    (λ c. simp (c .move-on-by2 .ensures, c .before .move-by2 .ensures, c .before .before .before .a3 .given .1))
     (λ c. simp (c .set-motor .ensures, c .before .place-at .ensures, c .before .before .before .a4 .given .1))
     (λ c.
     simp (

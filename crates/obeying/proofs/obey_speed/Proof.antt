@@ -1,0 +1,35 @@
+-- `obeying::obey_speed` meets its contract: by the fault that an idle unit finds in the line.
+-- Assumes nothing.
+use borrow.Author.Needs.{needs}
+use borrow.Author.Tests.{eq-eqb, ne-eqb}
+use Rattle.lines.proofs.FaultLaws.{place-most}
+use Rattle.obeying.proofs.obey_speed.Statement.{statement}
+use Rattle.obeying.proofs.obey_speed.Tie as tie
+
+returns : tie.Need-returns
+returns c =
+    simp (
+      c .hold .ensures,
+      c .before .set-speed .ensures,
+      c .before .before .speed-in .ensures,
+      ← c .before .before .before .before .before .check-line .ensures,
+      eq-eqb _ _ (c .before .before .before .if1 .taken),
+    )
+
+refuse-at-requires : tie.Need-refuse-at-requires
+refuse-at-requires c κs = rw (c .before .before .check-line .ensures) (place-most _)
+
+returns-2 : tie.Need-returns-2
+returns-2 c = simp (c .refuse-at .ensures, ← c .before .before .before .check-line .ensures, ne-eqb _ _ (c .before .if1 .left))
+
+pub obey-speed-spec : {M : Type 1} → statement M
+obey-speed-spec =
+    tie.close
+    (tie.spec
+    (λ c κs. search needs)
+    (λ c κs. search needs)
+    (λ c κs. search needs)
+    (λ c κs. search needs)
+    returns
+    refuse-at-requires
+    returns-2)
