@@ -1,0 +1,36 @@
+-- Laws of lists in which no run of digits is too long. Assumes nothing.
+use Prim.Native.Nat.{ℕ, zero, suc, _+_, _-_, _≤_}
+use mathlib.Core.Path.{_≡_, refl}
+use mathlib.Core.List.{List, [], _∷_}
+use mathlib.Core.Bool.{Bool, true, false, cond, _&&_, and-eq-true-iff}
+use native.Mathlib.Omega.{arith}
+use lib.ListN.{length, drop}
+use lib.Dec.{leb}
+use borrow.Author.Tests.{le-leb, leb-true}
+use Rattle.digits.specs.Operand.{isDigit, digitRun, fewDigits}
+
+-- from every place the run is short
+pub few-at : (most : ℕ) (s : List ℕ) → fewDigits most s ≡ true → (at : ℕ) → length (digitRun (drop at s)) ≤ most
+unfolding fewDigits digitRun
+few-at most [] h zero = omega arith
+few-at most [] h (suc at) = omega arith
+few-at most (b ∷ bs) h zero = leb-true _ most (and-eq-true-iff (leb (length (digitRun (b ∷ bs))) most) (fewDigits most bs) .0 h .0)
+few-at most (b ∷ bs) h (suc at) = few-at most bs (and-eq-true-iff (leb (length (digitRun (b ∷ bs))) most) (fewDigits most bs) .0 h .1) at
+
+-- and a list of which that holds is one
+pub few-when : (most : ℕ) (s : List ℕ) → ((at : ℕ) → length (digitRun (drop at s)) ≤ most) → fewDigits most s ≡ true
+unfolding fewDigits
+few-when most [] h = refl
+few-when most (b ∷ bs) h = rw (le-leb _ most (h 0)) (few-when most bs (λ at. h (suc at)))
+
+-- from a place within a run, the rest of it
+pub run-later : (s : List ℕ) (k : ℕ) → k ≤ length (digitRun s) → length (digitRun (drop k s)) ≤ length (digitRun s)
+unfolding digitRun
+run-later s zero h = omega arith
+run-later [] (suc k) h = omega arith
+run-later (b ∷ s) (suc k) h = go (isDigit b) h (λ q. run-later s k q)
+  where
+    go : (t : Bool) → suc k ≤ length (cond t ((b - 48) ∷ digitRun s) []) → (k ≤ length (digitRun s) → length (digitRun (drop k s)) ≤ length (digitRun s))
+        → length (digitRun (drop k s)) ≤ length (cond t ((b - 48) ∷ digitRun s) [])
+    go true q rest = omega (arith, rest (omega arith))
+    go false q rest = absurd (omega arith)
