@@ -6,7 +6,7 @@
  * The archive: for a Cortex-M, `chip/dist` writes target/dist/ with a libdt.a for each chip (docs/CHIP.md says how to link it,
  * and its stack). For x86-64 (ELF objects, the System V calling convention), `examples/run` proves the code, writes
  * target/libdt.a and shows it at work; examples/firmware.c is to be copied. The one for x86-64 needs no C library and leaves no
- * symbol undefined: it links with -nostdlib, and its deepest call takes 216 bytes of stack (docs/SPEED.md says how that was
+ * symbol undefined: it links with -nostdlib, and its deepest call takes 344 bytes of stack (docs/SPEED.md says how that was
  * read off). C and C++ may include this header.
  *
  * What the numbers mean is said in docs/MANUAL.md.
