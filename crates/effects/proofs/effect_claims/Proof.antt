@@ -1,11 +1,11 @@
 -- `effects::effect_claims`: each claim is a law. Assumes nothing.
 use Rattle.effects.proofs.BodyLaws.{each-body}
-use Rattle.effects.proofs.TurnLaws.{start-defaults, feeds, serves, idles, idle, waits, commands, answers}
+use Rattle.effects.proofs.TurnLaws.{start-defaults, starts-good, starts-held, feeds, serves, idles, idle, waits, commands, answers}
 use Rattle.effects.proofs.effect_claims.Statement.{statement}
 use Rattle.effects.proofs.effect_claims.Tie as tie
 
 returns : tie.Need-returns
-returns c = record { defaults = start-defaults; bodies = each-body; feeds = feeds; serves = serves; idles = idles; idle = idle; waits = waits; commands = commands; answers = answers }
+returns c = record { defaults = start-defaults; starts-good = starts-good; starts-held = starts-held; bodies = each-body; feeds = feeds; serves = serves; idles = idles; idle = idle; waits = waits; commands = commands; answers = answers }
 
 pub effect-claims-spec : {M : Type 1} → statement M
 effect-claims-spec = tie.close (tie.spec returns)
