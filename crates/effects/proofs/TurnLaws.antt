@@ -15,6 +15,7 @@ use Rattle.commands.specs.Table.{top, table, find, commandOf}
 use Rattle.commands.specs.Reading.{readAt}
 use Rattle.commands.proofs.TableLaws.{exponent-complete}
 use Rattle.frames.specs.Receive.{Receiver, bodyIn}
+use Rattle.image.proofs.HeldLaws.{no-text}
 use Rattle.image.specs.Image.{slotGood, slotText}
 use Rattle.flow.specs.declared.Flow.{Flow}
 use Rattle.flow.specs.declared.Flowed.{Flowed}

@@ -107,7 +107,7 @@ fresh-first z = absurd (false≢true z)
 on-first : (good : Bool) (n : ℕ) → AtFirst (begunOn good n)
 unfolding ended
 on-first true n = cases AtFirst (ltb 0 n) (λ l. started-first n freshCore) (λ l. fresh-first)
-on-first false n z = absurd (false≢true z)
+on-first false n = λ z. absurd (false≢true z)
 
 start-first : (number : ℕ) (image body text : List ℕ) → AtFirst (startOf number image body text .unit .core)
 unfolding startOf freshUnit noUnit
