@@ -31,7 +31,7 @@ extern "C" {
 /* The code that an idle unit gives to the body of a frame. */
 #define DT_LINE_TAKEN 0u    /* the body is taken */
 #define DT_LINE_MISTAKE 2u  /* an unknown or misplaced letter, the structure, or over 256 bytes */
-#define DT_LINE_OPERAND 3u  /* an operand is missing or out of its range */
+#define DT_LINE_OPERAND 3u  /* an operand is missing, has more than ten digits or is out of its range */
 
 /* Whether a text may be stored as a program. */
 #define DT_TEXT_GOOD 0u
@@ -40,7 +40,9 @@ extern "C" {
 /* An image of the programs. */
 #define DT_IMAGE_GOOD 0u
 #define DT_IMAGE_LENGTH 1u  /* it has not 4160 bytes */
-#define DT_IMAGE_BAD 2u     /* an entry, a body or an unused byte breaks the rules */
+#define DT_IMAGE_BAD 2u     /* an entry, a body or an unused byte breaks the rules. A unit starts all the same on a store of
+                             * older firmware in which only operands of more than ten digits do: those programs do not run
+                             * (code 1). Store each anew, or clear it: docs/MANUAL.md, "Stored programs" */
 #define DT_IMAGE_BYTES 4160u
 
 /* The figures of a ramp, or the first number that is out of its range. */
@@ -56,7 +58,7 @@ uint32_t dt_check_line(const uint8_t *body, uint64_t length);
  * 0 where there is none: the body is taken, or it has over 256 bytes. */
 uint32_t dt_line_place(const uint8_t *body, uint64_t length);
 
-/* The text of a program, without `s`, slot and `R`: DT_TEXT_.. */
+/* The text of a program, without `s`, slot and `R`: DT_TEXT_.. An operand has ten digits at most. */
 uint32_t dt_check_text(const uint8_t *text, uint64_t length);
 
 /* The image of the sixteen programs: DT_IMAGE_.. */
