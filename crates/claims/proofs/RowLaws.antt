@@ -12,9 +12,9 @@ use Rattle.parts.specs.Parts.{putIn}
 use Rattle.parts.proofs.Laws.{cases, put-front, put-in-room}
 use Rattle.lines.proofs.TakenLaws.{no}
 use Rattle.image.specs.declared.Checked.{Checked}
-use Rattle.image.specs.Calls.{checkedBy, checkedOf, olderOf}
+use Rattle.image.specs.Calls.{checkedBy, olderOf}
 use Rattle.image.proofs.CallLaws.{good-before}
-use Rattle.image.specs.Image.{rightLength, slots, slotsGood, slotsOlder}
+use Rattle.image.specs.Image.{rightLength, slots, slotsOlder}
 use Rattle.frames.specs.declared.Frame.{Frame}
 use Rattle.answers.specs.Packet.{packet, packetBytes}
 use Rattle.answers.proofs.Writing.{length-packet}

@@ -1,8 +1,8 @@
 -- Laws of lists in which no run of digits is too long. Assumes nothing.
-use Prim.Native.Nat.{ℕ, zero, suc, _+_, _-_, _≤_, _<_}
+use Prim.Native.Nat.{ℕ, zero, suc, _≤_, _<_}
 use mathlib.Core.Path.{_≡_, refl, ap}
 use mathlib.Core.List.{List, [], _∷_, _++_}
-use mathlib.Core.Bool.{Bool, true, false, cond, _&&_, and-eq-true-iff}
+use mathlib.Core.Bool.{true, false, and-eq-true-iff}
 use native.Mathlib.Omega.{arith}
 use lib.ListN.{length, getD, drop}
 use lib.Dec.{leb}
@@ -38,15 +38,3 @@ few-digits most (d ∷ ds) rest all t =
     let more = few-digits most ds rest (λ i h. all (suc i) (omega arith)) t in
     let run : length (digitRun ((d ∷ ds) ++ rest)) ≡ length (d ∷ ds) = rw (all 0 (omega arith)) (ap suc (more .0)) in
     (run, λ h f. rw (run, le-leb (length (d ∷ ds)) most h) (more .1 (omega arith) f))
-
--- from a place within a run, the rest of it
-pub run-later : (s : List ℕ) (k : ℕ) → k ≤ length (digitRun s) → length (digitRun (drop k s)) ≤ length (digitRun s)
-unfolding digitRun
-run-later s zero h = omega arith
-run-later [] (suc k) h = omega arith
-run-later (b ∷ s) (suc k) h = go (isDigit b) h (λ q. run-later s k q)
-  where
-    go : (t : Bool) → suc k ≤ length (cond t ((b - 48) ∷ digitRun s) []) → (k ≤ length (digitRun s) → length (digitRun (drop k s)) ≤ length (digitRun s))
-        → length (digitRun (drop k s)) ≤ length (cond t ((b - 48) ∷ digitRun s) [])
-    go true q rest = omega (arith, rest (omega arith))
-    go false q rest = absurd (omega arith)

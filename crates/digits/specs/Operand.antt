@@ -43,7 +43,7 @@ operandAt s at = operandOf (digitRun (drop at s)) (at + length (digitRun (drop a
 abbrev pub operandMost : ℕ
 operandMost = 10
 
--- the same where so many digits are the most: a longer run is above all ranges, whatever it stands for
+-- the operand at a place where so many digits are the most: a longer run is above all ranges, whatever it stands for
 unfoldable pub operandUpTo : ℕ → List ℕ → ℕ → Operand
 operandUpTo most s at =
     cond (leb (length (digitRun (drop at s))) most) (operandAt s at) (Above (at + length (digitRun (drop at s))))

@@ -96,7 +96,12 @@ fn slot_by(image: &[u8], slot: u32, most: usize) -> bool
     if SLOTS <= slot {
         return false;
     }
-    good_at(start_of(slot), entry_of(image, slot), body_of(image, slot), most)
+    good_at(
+        start_of(slot),
+        entry_of(image, slot),
+        body_of(image, slot),
+        most,
+    )
 }
 
 // The text of a slot; none where the slot is not good.

@@ -1,5 +1,4 @@
 -- `drive::begin_on` meets its contract. Assumes nothing.
-use mathlib.Core.Path.{_∙_}
 use borrow.Author.Needs.{needs}
 use Rattle.drive.proofs.starting.begin_on.Statement.{statement}
 use Rattle.drive.proofs.starting.begin_on.Tie as tie
