@@ -281,9 +281,9 @@ fn calls_rows() -> [Row; 10] {
     ]
 }
 
-/// A stored text of 14 commands in 216 bytes.
+/// A stored text of 14 commands in 128 bytes.
 fn full_text() -> Vec<u8> {
     let numbers = ["A", "P", "D", "M", "z", "V", "L", "m", "h", "o", "J"].iter().zip([1000, 200, 30, 50, 0, 305175, 1000, 25, 10, 1500, 1]);
-    let words: String = numbers.map(|(letter, number)| format!("{letter}{number:018}")).collect();
+    let words: String = numbers.map(|(letter, number)| format!("{letter}{number:010}")).collect();
     format!("gS01{words}G10").into_bytes()
 }
