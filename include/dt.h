@@ -6,7 +6,7 @@
  * The archive: for a Cortex-M, `chip/dist` writes target/dist/ with a libdt.a for each chip (docs/CHIP.md says how to link it,
  * and its stack). For x86-64 (ELF objects, the System V calling convention), `examples/run` proves the code, writes
  * target/libdt.a and shows it at work; examples/firmware.c is to be copied. The one for x86-64 needs no C library and leaves no
- * symbol undefined: it links with -nostdlib, and its deepest call takes 360 bytes of stack (docs/SPEED.md says how that was
+ * symbol undefined: it links with -nostdlib, and its deepest call takes 520 bytes of stack (docs/SPEED.md says how that was
  * read off). C and C++ may include this header.
  *
  * What the numbers mean is said in docs/MANUAL.md.
@@ -31,7 +31,7 @@ extern "C" {
 /* The code that an idle unit gives to the body of a frame. */
 #define DT_LINE_TAKEN 0u    /* the body is taken */
 #define DT_LINE_MISTAKE 2u  /* an unknown or misplaced letter, the structure, or over 256 bytes */
-#define DT_LINE_OPERAND 3u  /* an operand is missing or out of its range */
+#define DT_LINE_OPERAND 3u  /* an operand is missing, has more than ten digits or is out of its range */
 
 /* How many commands a run takes: a count is at most 2^63 - 1, so the numbers from 2^63 on are refusals. */
 #define DT_COUNT_REFUSED UINT64_C(0x8000000000000000)
@@ -47,7 +47,9 @@ extern "C" {
 /* An image of the programs. */
 #define DT_IMAGE_GOOD 0u
 #define DT_IMAGE_LENGTH 1u  /* it has not 4160 bytes */
-#define DT_IMAGE_BAD 2u     /* an entry, a body or an unused byte breaks the rules */
+#define DT_IMAGE_BAD 2u     /* an entry, a body or an unused byte breaks the rules. A unit starts all the same on a store of
+                             * older firmware in which only operands of more than ten digits do: those programs do not run
+                             * (code 1). Store each anew, or clear it: docs/MANUAL.md, "Stored programs" */
 #define DT_IMAGE_BYTES 4160u
 
 /* The figures of a ramp, or the first number that is out of its range. */
@@ -67,7 +69,7 @@ uint32_t dt_line_place(const uint8_t *body, uint64_t length);
  * that it stores; a body without a text gives 0. */
 uint64_t dt_count(const uint8_t *body, uint64_t length);
 
-/* The text of a program, without `s`, slot and `R`: DT_TEXT_.. */
+/* The text of a program, without `s`, slot and `R`: DT_TEXT_.. An operand has ten digits at most. */
 uint32_t dt_check_text(const uint8_t *text, uint64_t length);
 
 /* The image of the sixteen programs: DT_IMAGE_.. */

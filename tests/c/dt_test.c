@@ -18,12 +18,12 @@ static void same(const char *what, double found, double wanted)
 static uint32_t line(const char *body) { return dt_check_line((const uint8_t *)body, strlen(body)); }
 static uint32_t text(const char *t) { return dt_check_text((const uint8_t *)t, strlen(t)); }
 
-/* A body of n bytes: A, zeros, and an R. */
-static uint32_t padded_line(size_t n)
+/* A body of n bytes: z0 again and again, an H where a byte is left, and an R. */
+static uint32_t filled_line(size_t n)
 {
     uint8_t body[300];
-    memset(body, '0', sizeof body);
-    body[0] = 'A';
+    for (size_t i = 0; i < sizeof body; i++) body[i] = i % 2 ? '0' : 'z';
+    if (n % 2 == 0) body[n - 2] = 'H';
     body[n - 1] = 'R';
     return dt_check_line(body, n);
 }
@@ -31,9 +31,9 @@ static uint32_t padded_line(size_t n)
 static void lines(void)
 {
     static const struct { const char *body; uint32_t code; } rows[] = {
-        {"", 0}, {"R", 0}, {"X", 0}, {"T", 0}, {"TR", 0}, {"Q", 0}, {"$", 0}, {"?0", 0}, {"?9", 0},
+        {"", 0}, {"R", 0}, {"X", 0}, {"T", 0}, {"TR", 0}, {"Q", 0}, {"$", 0}, {"?0", 0}, {"?5", 0}, {"?9", 0},
         {"?1", 2}, {"?", 2}, {"T5", 2}, {"TRR", 2}, {"Q1", 2}, {"$$", 2},
-        {"A2147483647R", 0}, {"A2147483648R", 3}, {"A4294967297R", 3}, {"A0000000000000000001R", 0}, {"AR", 3},
+        {"A2147483647R", 0}, {"A2147483648R", 3}, {"A4294967297R", 3}, {"A0000000001R", 0}, {"A00000000001R", 3}, {"AR", 3},
         {"V1R", 0}, {"V0R", 3}, {"V16777216R", 0}, {"V16777217R", 3}, {"L1R", 0}, {"L0R", 3}, {"L65000R", 0}, {"L65001R", 3},
         {"f1F1R", 0}, {"f2R", 3}, {"m100h50R", 0}, {"m101R", 3}, {"h51R", 3}, {"o1400o1650R", 0}, {"o1399R", 3}, {"o1651R", 3},
         {"J3R", 0}, {"J4R", 3}, {"b9600b19200b38400R", 0}, {"b9601R", 3}, {"M30000R", 0}, {"M30001R", 3},
@@ -43,12 +43,13 @@ static void lines(void)
         {"ggggG1G1G1G1R", 0}, {"gggggG1G1G1G1G1R", 2}, {"G1R", 2}, {"gR", 2}, {"gS03G2R", 2}, {"gA0S03e0G0R", 0},
         {"S02", 2}, {"S02gG1R", 2}, {"A1RA2", 2}, {"RR", 2}, {"XX", 2}, {"A1X", 2}, {"A1s2R", 2},
         {"s0R", 0}, {"s15A1R", 0}, {"s16R", 3}, {"sR", 3}, {"s3A1", 2}, {"s003A1R", 0},
+        {"s0000000003R", 0}, {"s00000000003R", 3}, {"s3A00000000001R", 3}, {"gG00000000002R", 3}, {"H00000000002R", 3}, {"S00000000002A1R", 3},
         {"s1A1A1A1A1A1A1A1A1A1A1A1A1A1A1R", 0}, {"s1A1A1A1A1A1A1A1A1A1A1A1A1A1A1A1R", 2},
         {"s1G1j3R", 3}, {"y", 2}, {"A1\n", 2},
     };
     for (size_t i = 0; i < sizeof rows / sizeof rows[0]; i++) same(rows[i].body, line(rows[i].body), rows[i].code);
-    same("256 bytes", padded_line(256), DT_LINE_TAKEN);
-    same("257 bytes", padded_line(257), DT_LINE_MISTAKE);
+    same("256 bytes", filled_line(256), DT_LINE_TAKEN);
+    same("257 bytes", filled_line(257), DT_LINE_MISTAKE);
     same("an empty slice", dt_check_line(NULL, 0), DT_LINE_TAKEN);
 }
 
@@ -60,14 +61,14 @@ static void places(void)
     static const struct { const char *body; uint32_t place; } rows[] = {
         {"", 0}, {"R", 0}, {"?0", 0}, {"A1R", 0}, {"s3A1R", 0}, {"?1", 1}, {"T5", 1}, {"y", 1}, {"g5R", 2}, {"A1L0R", 3}, {"A1RA2", 3}, {"A1s2R", 3},
         {"s16R", 1}, {"sR", 1}, {"s12A1x", 6}, {"A1G1R", 3}, {"gggggG1G1G1G1G1R", 5}, {"A1gA2", 3}, {"A1S02", 3}, {"S02gG1R", 1},
-        {"s1A1A1A1A1A1A1A1A1A1A1A1A1A1A1A1R", 31}, {"s3A1", 5}, {"s3", 3},
+        {"s1A1A1A1A1A1A1A1A1A1A1A1A1A1A1A1R", 31}, {"s3A1", 5}, {"s3", 3}, {"s0000000003z0000000008", 23}, {"A00000000001R", 1}, {"A1V00000000001R", 3},
         {"gggggGGGGR", 1}, {"ggA1S02G1R", 1}, {"G1gP1R", 1}, {"s1A1A1A1A1A1A1A1A1A1A1A1A1A1A1A1", 31}, {"G1L0R", 3}, {"s12gA5", 4},
     };
     uint8_t body[300];
     for (size_t i = 0; i < sizeof rows / sizeof rows[0]; i++) same(rows[i].body, place(rows[i].body), rows[i].place);
     memset(body, '0', sizeof body);
     body[0] = 's';
-    same("256 bytes without R", dt_line_place(body, 256), 257);
+    same("a slot of 255 digits", dt_line_place(body, 256), 1);
     same("257 bytes, no place", dt_line_place(body, 257), 0);
     same("an empty slice", dt_line_place(NULL, 0), 0);
 }
@@ -102,6 +103,8 @@ static void texts(void)
     same("A1R", text("A1R"), DT_TEXT_BAD);
     same("fourteen", text("A1A1A1A1A1A1A1A1A1A1A1A1A1A1"), DT_TEXT_GOOD);
     same("fifteen", text("A1A1A1A1A1A1A1A1A1A1A1A1A1A1A1"), DT_TEXT_BAD);
+    same("ten digits", text("A0000000001"), DT_TEXT_GOOD);
+    same("eleven digits", text("A00000000001"), DT_TEXT_BAD);
     same("nines", dt_check_text(nines, sizeof nines), DT_TEXT_BAD);
     same("an empty slice", dt_check_text(NULL, 0), DT_TEXT_GOOD);
 }
@@ -140,6 +143,10 @@ static void images(void)
     with_byte("an unused byte", 64 + 256 * 3 + 3, '0', DT_IMAGE_BAD);
     with_byte("the last byte", DT_IMAGE_BYTES - 1, 1, DT_IMAGE_BAD);
     with_byte("a letter", 64 + 256 * 3, 'R', DT_IMAGE_BAD);
+    clear();
+    memcpy(image + 64 + 256 * 3, "A00000000010", 12);
+    image[4 * 3 + 2] = 12;
+    same("a program of an older store", dt_check_image(image, DT_IMAGE_BYTES), DT_IMAGE_BAD);
 }
 
 static void ramps(void)

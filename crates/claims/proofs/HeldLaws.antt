@@ -18,6 +18,7 @@ use Rattle.obeying.specs.Deeds.{Obeys, refuses, tells, stores, clears, stops, r
 use Rattle.drive.specs.declared.Last.{Last}
 use Rattle.drive.specs.Unit.{Drive}
 use Rattle.drive.specs.Repeats.{numberIn, isRefusal}
+use Rattle.image.specs.Image.{slotGood}
 use Rattle.drive.specs.Calls.{startOf, receivedBy, bodyBy, obeyedBy, feedOf, Turning}
 use Rattle.drive.proofs.FeedLaws.{frame-does}
 use Rattle.stream.specs.Oem.{Heeded}
@@ -29,7 +30,7 @@ use Rattle.runs.proofs.CallLaws.{framed, feed-cases, feed-done, turn-cases, tur
 use Rattle.runs.proofs.ReachLaws.{reached-sound}
 use Rattle.runs.proofs.AstrayLaws.{never-astray}
 use Rattle.runs.proofs.EndLaws.{ends-exactly}
-use Rattle.effects.proofs.TurnLaws.{start-defaults, idle}
+use Rattle.effects.proofs.TurnLaws.{starts-good, starts-held, idle}
 use Rattle.claims.specs.Demand1.{frameCode}
 use Rattle.claims.proofs.OrderLaws.{order-row}
 
@@ -78,8 +79,14 @@ after-held {u} c r h = go (after c u .core .running) refl
 
 pub held-code : {u : Drive} → Reached u → Held (u .core)
 unfolding oneOf
-held-code (fresh number image body text l e) =
-    subst (λ (k : ℕ). oneOf causeCodes k ≡ true) (sym (start-defaults number image body text e .code)) refl
+held-code (fresh number image body text l e) = go (slotGood image 0) refl
+  where
+    is : {k m : ℕ} → k ≡ m → oneOf causeCodes m ≡ true → oneOf causeCodes k ≡ true
+    is q h = subst (λ (n : ℕ). oneOf causeCodes n ≡ true) (sym q) h
+
+    go : (b : Bool) → slotGood image 0 ≡ b → oneOf causeCodes (startOf number image body text .unit .core .code) ≡ true
+    go true g = is (starts-good number image body text e g) refl
+    go false g = is (starts-held number image body text e g .holding) refl
 held-code (called {u} c r) = after-held c r (held-code r)
 
 -- ---- the number

@@ -12,8 +12,11 @@ use Rattle.parts.specs.Parts.{putIn}
 use Rattle.parts.proofs.Laws.{cases, put-front, put-in-room}
 use Rattle.commands.specs.Table as table
 use Rattle.commands.proofs.TableLaws.{each, each-one}
-use Rattle.image.specs.Calls.{checkedOf}
-use Rattle.image.specs.Image.{rightLength, slots, slotsGood}
+use Rattle.lines.proofs.TakenLaws.{no}
+use Rattle.image.specs.declared.Checked.{Checked}
+use Rattle.image.specs.Calls.{checkedBy, olderOf}
+use Rattle.image.proofs.CallLaws.{good-before}
+use Rattle.image.specs.Image.{rightLength, slots, slotsOlder}
 use Rattle.frames.specs.declared.Frame.{Frame}
 use Rattle.frames.specs.declared.Framing.{Framing}
 use Rattle.answers.specs.Packet.{packetBytes}
@@ -33,16 +36,25 @@ use Rattle.drive.proofs.FeedLaws.{put-nothing}
 use Rattle.claims.specs.Demand1.{StartRow, ImageRow, FrameRefused, frameFault, frameCode, placeData, refusalPacket, FeedRow, TurnRow}
 use Rattle.claims.proofs.OrderLaws.{order-row}
 
+-- what the check for start says
+older-so : (image : List ℕ) → olderOf image ≡ Checked.Good → (rightLength image ≡ true) × (slotsOlder image slots ≡ true)
+unfolding checkedBy
+older-so image = cases Q (rightLength image) (λ a. cases Q (slotsOlder image slots) (λ b e. (a, b)) (λ b e. no (cc))) (λ a e. no (cc))
+  where
+    Q : Checked → Type 0
+    Q r = r ≡ Checked.Good → (rightLength image ≡ true) × (slotsOlder image slots ≡ true)
+
 pub start-row : (number : ℕ) (image body text : List ℕ) → StartRow number image body text
 unfolding startOf noUnit
 start-row number image body text = record {
-  named = go (isUnit number) (rightLength image) (slotsGood image slots);
+  named = go (isUnit number) (rightLength image) (slotsOlder image slots);
   unit-number = λ n. rw n;
   image-length = λ n l. rw (n, l);
   image-bad = λ n l g. rw (n, l, g);
   started = λ n l g. rw (n, l, g);
+  good-starts = λ n g. let k = older-so image (good-before image g) in rw (n, k .0, k .1);
   texts-same = cases Left (isUnit number)
-      (λ a. cases Left (rightLength image) (λ b. cases Left (slotsGood image slots) (λ s n. absurd (n refl)) (λ s n. (refl, refl))) (λ b n. (refl, refl)))
+      (λ a. cases Left (rightLength image) (λ b. cases Left (slotsOlder image slots) (λ s n. absurd (n refl)) (λ s n. (refl, refl))) (λ b n. (refl, refl)))
       (λ a n. (refl, refl));
 }
   where
@@ -59,7 +71,7 @@ start-row number image body text = record {
     go false b d = refl
 
 pub image-row : (image : List ℕ) → ImageRow image
-unfolding checkedOf
+unfolding checkedBy
 image-row image = record { wrong-length = λ l. rw l; bad = λ l g. rw (l, g); good = λ l g. rw (l, g) }
 
 pub turn-row : (u : Drive) (sample ms steps : ℕ) (image : List ℕ) → TurnRow u sample ms steps image

@@ -15,7 +15,7 @@ use Rattle.lines.specs.Bodies.{lineFault, lineCode}
 use Rattle.lines.specs.Claims.{PlacedIn}
 use Rattle.image.specs.declared.Checked.{Checked}
 use Rattle.image.specs.Calls.{checkedOf}
-use Rattle.image.specs.Image.{rightLength, slots, slotsGood}
+use Rattle.image.specs.Image.{rightLength, slots, slotsGood, slotsOlder}
 use Rattle.frames.specs.declared.Frame.{Frame}
 use Rattle.frames.specs.declared.Framing.{Framing}
 use Rattle.frames.specs.Addresses.{isUnit}
@@ -41,16 +41,20 @@ use Rattle.drive.specs.Names.{startName, feedName, turnName}
 use Rattle.drive.specs.Calls.{noUnit, freshUnit, starting, startOf, receivedBy, bodyBy, packetAs, feedRefused, feedOf, mostSample, turnRefused, turnOf}
 use Rattle.claims.specs.Order.{faultInOrder, codeInOrder}
 
--- "at start: unit number not 1 to 16, then image not 4,160 bytes, then bad image | named refusal, no unit"
+-- "at start: unit number not 1 to 16, then image not 4,160 bytes, then bad image | named refusal, no unit"; 02, E9: the image is as good
+-- as the reading without its limit of digits finds it
 pub record StartRow (number : ℕ) (image body text : List ℕ) : Type 0 where
   -- the names, in their order
   pub named : startName (startOf number image body text .answer)
-      ≡ cond (isUnit number) (cond (rightLength image) (cond (slotsGood image slots) "started" "bad image") "image not 4,160 bytes") "unit number not 1 to 16"
+      ≡ cond (isUnit number) (cond (rightLength image) (cond (slotsOlder image slots) "started" "bad image") "image not 4,160 bytes") "unit number not 1 to 16"
   pub unit-number : isUnit number ≡ false → startOf number image body text ≡ starting StartAnswer.UnitNumber (noUnit body text)
   pub image-length : isUnit number ≡ true → rightLength image ≡ false → startOf number image body text ≡ starting StartAnswer.ImageLength (noUnit body text)
-  pub image-bad : isUnit number ≡ true → rightLength image ≡ true → slotsGood image slots ≡ false
+  pub image-bad : isUnit number ≡ true → rightLength image ≡ true → slotsOlder image slots ≡ false
       → startOf number image body text ≡ starting StartAnswer.ImageBad (noUnit body text)
-  pub started : isUnit number ≡ true → rightLength image ≡ true → slotsGood image slots ≡ true
+  pub started : isUnit number ≡ true → rightLength image ≡ true → slotsOlder image slots ≡ true
+      → startOf number image body text ≡ starting StartAnswer.Started (freshUnit number image body)
+  -- an image that the image check calls good is never refused
+  pub good-starts : isUnit number ≡ true → checkedOf image ≡ Checked.Good
       → startOf number image body text ≡ starting StartAnswer.Started (freshUnit number image body)
   -- "no unit": a refused start leaves the texts as they were lent
   pub texts-same : (startOf number image body text .answer ≡ StartAnswer.Started → ⊥)

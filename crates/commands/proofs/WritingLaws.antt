@@ -14,10 +14,12 @@ use borrow.Author.Tests.{le-leb, lt-ltb, leb-true, eqb-true, ltb-true, not-true}
 use Rattle.parts.specs.Parts.{part}
 use Rattle.digits.specs.declared.Operand.{Operand}
 use Rattle.digits.specs.declared.Operand.the-variants.{Missing, Number, Above}
-use Rattle.digits.specs.Operand.{widest, isDigit, digitRun, numberTo, operandAt, operandOf}
+use Rattle.digits.specs.Operand.{widest, isDigit, digitRun, numberTo, operandAt, operandOf, operandMost, operandUpTo, fewDigits}
 use Rattle.digits.specs.Decimal.{decimal}
 use Rattle.digits.specs.ReadBack.{spelling}
-use Rattle.digits.proofs.ReadBack.{read-back, spelled, missing-run, no-digit, decimal-digit}
+use Rattle.digits.proofs.ReadBack.{read-length, read-limited, spelled, up-to-number, up-to-missing, no-digit, decimal-digit}
+use Rattle.digits.proofs.Writing.{length-most}
+use Rattle.digits.proofs.FewLaws.{few-no-digit, few-digits}
 use Rattle.commands.specs.declared.Command.{Command}
 use Rattle.commands.specs.declared.Command.the-variants.{LoopBegin, LoopEnd, Skip, Jump, Plain}
 use Rattle.commands.specs.declared.Act.the-variants.{MoveTo, MoveUp, MoveDown, SetPosition, Home, Set, Delay, WaitInput}
@@ -31,7 +33,7 @@ use Rattle.commands.specs.declared.Read.the-variants.{At, Bad, End}
 use Rattle.commands.specs.declared.Spelling.{Spelling}
 use Rattle.commands.specs.declared.Spelling.the-variants.{Alone, WithNumber, WithTwoDigits}
 use Rattle.commands.specs.Table.{top, Row, table, find, asksOf, commandOf, oneOf, within}
-use Rattle.commands.specs.Reading.{badOperand, required, orElse, letterAt, readAt}
+use Rattle.commands.specs.Reading.{badOperand, required, orElse, letterAt, readBy, readAt}
 use Rattle.commands.specs.Writing.{spellingOf, bytesOf, spelled as spelledOf, permits, permitted, inRange, zeroed, SpellsCommand, full, bareG, bareH, follows, CommandAt}
 use Rattle.commands.specs.Claims.{apart}
 use Rattle.commands.proofs.ReadingLaws.{read-step}
@@ -54,8 +56,8 @@ permits-for (Required q) r n a = ap (λ (p : Range). within p n 2) a
 permits-for (OrElse q m) r n a = ap (λ (p : Range). within p n 2) a
 
 -- a number that may be above all ranges: it is there, so none means nothing
-letter-number : (k : Asks) (r : Range) (l : ℕ) (s : List ℕ) (at n next : ℕ) → AsksFor k r → operandAt s at ≡ numberTo n next
-    → letterAt k l s at ≡ required l r (numberTo n next) at
+letter-number : (k : Asks) (r : Range) (l : ℕ) (s : List ℕ) (at n next : ℕ) → AsksFor k r → operandUpTo operandMost s at ≡ numberTo n next
+    → letterAt operandMost k l s at ≡ required l r (numberTo n next) at
 letter-number Unknown r l s at n next a e = absurd a
 letter-number Nothing r l s at n next a e = absurd a
 letter-number (Required q) r l s at n next a e = rw (e, a)
@@ -76,6 +78,14 @@ number-within l r n next at h = go (leb n widest) refl (within r n (next - at)) 
     go false q true e = let f = le-leb n widest (h e) in let z : _≡_ {A = ℕ} 0 1 = cc in absurd (omega arith)
     go false q false e = refl
 
+-- more digits than may be: none of them is looked at
+letter-many : (k : Asks) (r : Range) (l : ℕ) (s : List ℕ) (at next : ℕ) → AsksFor k r → operandUpTo operandMost s at ≡ Above next
+    → letterAt operandMost k l s at ≡ Bad (badOperand at)
+letter-many Unknown r l s at next a e = absurd a
+letter-many Nothing r l s at next a e = absurd a
+letter-many (Required q) r l s at next a e = rw e
+letter-many (OrElse q m) r l s at next a e = rw e
+
 -- a byte that stands at a place
 module _ (s : List ℕ) (at l : ℕ) (rest : List ℕ) (e : drop at s ≡ l ∷ rest) where
   stands : at < length s
@@ -87,24 +97,33 @@ module _ (s : List ℕ) (at l : ℕ) (rest : List ℕ) (e : drop at s ≡ l ∷ 
   pub stands-rest : drop (at + 1) s ≡ rest
   stands-rest = sym (drop-drop 1 at s) ∙ ap (λ (t : List ℕ). drop 1 t) e
 
-  pub read-letter : readAt s at ≡ letterAt (asksOf l) l s (at + 1)
-  unfolding readAt
+  pub read-letter : readAt s at ≡ letterAt operandMost (asksOf l) l s (at + 1)
+  unfolding readBy
   read-letter = rw (lt-ltb at (length s) stands, stands-letter)
 
 -- a letter and a spelling of n
 read-number : (s rest : List ℕ) (at l n z : ℕ) (r : Range) → AsksFor (asksOf l) r → drop at s ≡ l ∷ (spelling z n ++ rest) → digitRun rest ≡ []
-    → within r n (z + length (decimal n)) ≡ within r n 2 → (within r n 2 ≡ true → n ≤ widest)
+    → within r n (z + length (decimal n)) ≡ within r n 2 → (within r n 2 ≡ true → (n ≤ widest) × (z + length (decimal n) ≤ operandMost))
     → readAt s at ≡ cond (within r n 2) (At (commandOf l n) (at + length (l ∷ spelling z n))) (Bad (badOperand (at + 1)))
-read-number s rest at l n z r a e t w h =
-    let next : ℕ = at + 1 + (z + length (decimal n)) in
-    let count : next - (at + 1) ≡ z + length (decimal n) = omega arith in
-    let same : within r n (next - (at + 1)) ≡ within r n 2 = ap (λ (k : ℕ). within r n k) count ∙ w in
-    let past : next ≡ at + length (l ∷ spelling z n) = omega (arith, length-append (replicate z 48) (decimal n), length-replicate {A = ℕ} z 48) in
-    let there = read-back s rest (at + 1) z n (stands-rest s at l (spelling z n ++ rest) e) t in
-    read-letter s at l (spelling z n ++ rest) e
-    ∙ letter-number (asksOf l) r l s (at + 1) n next a there
-    ∙ number-within l r n next (at + 1) (λ k. h (sym same ∙ k))
-    ∙ rw (same, past)
+read-number s rest at l n z r a e t w h = read-letter s at l (spelling z n ++ rest) e ∙ go (leb (z + length (decimal n)) operandMost) refl (within r n 2) refl
+  where
+    next : ℕ
+    next = at + 1 + (z + length (decimal n))
+
+    there : operandUpTo operandMost s (at + 1) ≡ cond (leb (z + length (decimal n)) operandMost) (numberTo n next) (Above next)
+    there = read-limited operandMost s rest (at + 1) z n (stands-rest s at l (spelling z n ++ rest) e) t
+
+    go : (b : Bool) → leb (z + length (decimal n)) operandMost ≡ b → (d : Bool) → within r n 2 ≡ d
+        → letterAt operandMost (asksOf l) l s (at + 1) ≡ cond (within r n 2) (At (commandOf l n) (at + length (l ∷ spelling z n))) (Bad (badOperand (at + 1)))
+    go true q d j =
+        let count : next - (at + 1) ≡ z + length (decimal n) = omega arith in
+        let same : within r n (next - (at + 1)) ≡ within r n 2 = ap (λ (k : ℕ). within r n k) count ∙ w in
+        let past : next ≡ at + length (l ∷ spelling z n) = omega (arith, length-append (replicate z 48) (decimal n), length-replicate {A = ℕ} z 48) in
+        letter-number (asksOf l) r l s (at + 1) n next a (there ∙ rw q)
+        ∙ number-within l r n next (at + 1) (λ k. h (sym same ∙ k) .0)
+        ∙ rw (same, past)
+    go false q true j = let f = le-leb (z + length (decimal n)) operandMost (h j .1) in let y : _≡_ {A = ℕ} 0 1 = cc in absurd (omega arith)
+    go false q false j = letter-many (asksOf l) r l s (at + 1) next a (there ∙ rw q) ∙ rw j
 
 -- the row of a command's letter, as its spelling wants it
 data RowOf : Spelling → Command → Type 0 where
@@ -136,28 +155,37 @@ row-of (Plain (Set Baud n)) = number _ n Rate refl tt refl
 row-of (Plain (Delay n)) = number 77 n (From 0 30000) refl (omega arith) refl
 row-of (Plain (WaitInput n)) = two 72 n refl refl
 
-read-row : {sp : Spelling} {c : Command} → RowOf sp c → (s rest : List ℕ) (at z : ℕ) → drop at s ≡ zeroed sp z ++ rest → follows sp rest
+-- with so many zeros it has too many digits only where it is out of range
+abbrev Fits : Spelling → ℕ → Type 0
+Fits sp z = permitted sp ≡ true → length (zeroed sp z) ≤ 1 + operandMost
+
+read-row : {sp : Spelling} {c : Command} → RowOf sp c → (s rest : List ℕ) (at z : ℕ) → Fits sp z → drop at s ≡ zeroed sp z ++ rest → follows sp rest
     → readAt s at ≡ cond (permitted sp) (At c (at + length (zeroed sp z))) (Bad (badOperand (at + 1)))
-read-row (alone l a b) s rest at z e t = read-letter s at l rest e ∙ rw (a, b)
-read-row (number l n r a u b) s rest at z e t =
-    read-number s rest at l n z r a e t (uncounted r n (z + length (decimal n)) 2 u) (λ k. within-most r n 2 u k)
+read-row (alone l a b) s rest at z f e t = read-letter s at l rest e ∙ rw (a, b)
+read-row (number l n r a u b) s rest at z f e t =
+    let few : within r n 2 ≡ true → z + length (decimal n) ≤ operandMost =
+    λ k. omega (arith, f (permits-for (asksOf l) r n a ∙ k), length-append (replicate z 48) (decimal n), length-replicate {A = ℕ} z 48)
+    in
+    read-number s rest at l n z r a e t (uncounted r n (z + length (decimal n)) 2 u) (λ k. (within-most r n 2 u k, few k))
     ∙ rw (permits-for (asksOf l) r n a, b)
-read-row (two l n a b) s rest at z e t =
+read-row (two l n a b) s rest at z w e t =
     let k = two-digits n in
+    let most : within Input n 2 ≡ true → n ≤ 14 = λ q. input-most n 2 q .1 in
     let f : drop at s ≡ l ∷ (spelling (k .0) n ++ rest) = e ∙ ap (λ (t : List ℕ). l ∷ (t ++ rest)) (k .1) in
-    read-number s rest at l n (k .0) Input a f t (input-digits n (k .0 + length (decimal n)) (k .2)) (λ w. omega (arith, input-most n 2 w .1))
+    read-number s rest at l n (k .0) Input a f t (input-digits n (k .0 + length (decimal n)) (k .2))
+    (λ q. (omega (arith, most q), omega (arith, k .2 (omega (arith, most q)))))
     ∙ rw (permits-for (asksOf l) Input n a, b, k .1)
 
 -- a letter alone that means a number
 read-bare : (s rest : List ℕ) (at l m : ℕ) (r : Range) → asksOf l ≡ OrElse r m → drop at s ≡ l ∷ rest → digitRun rest ≡ [] → readAt s at ≡ At (commandOf l m) (at + 1)
-unfolding operandAt operandOf
+unfolding operandUpTo operandAt operandOf
 read-bare s rest at l m r a e t = read-letter s at l rest e ∙ rw (a, stands-rest s at l rest e, t)
 
 -- every spelling of a command in range reads as it
 pub reads-as : (s rest b : List ℕ) (at : ℕ) (c : Command) → SpellsCommand c b → inRange c ≡ true → drop at s ≡ b ++ rest → follows (spellingOf c) rest
     → readAt s at ≡ At c (at + length b)
 unfolding inRange asksOf commandOf find table
-reads-as s rest b at c (full d z) h e t = read-row (row-of d) s rest at z e t ∙ rw h
+reads-as s rest b at c (full d z w) h e t = read-row (row-of d) s rest at z (λ q. w) e t ∙ rw h
 reads-as s rest b at c bareG h e t = read-bare s rest at 71 0 (From 0 30000) refl e t
 reads-as s rest b at c bareH h e t = read-bare s rest at 72 2 Input refl e t
 
@@ -167,9 +195,19 @@ zeroed-none (Alone l) = refl
 zeroed-none (WithNumber l n) = refl
 zeroed-none (WithTwoDigits l n) = refl
 
-pub spells-itself : (c : Command) → SpellsCommand c (spelledOf c)
-unfolding spelledOf
-spells-itself c = rw (← zeroed-none (spellingOf c)) (full c 0)
+-- what is in range has ten digits at most
+fits-row : {sp : Spelling} {c : Command} → RowOf sp c → Fits sp 0
+fits-row (alone l a b) h = omega arith
+fits-row (number l n r a u b) h =
+    let most : n ≤ widest = within-most r n 2 u (sym (permits-for (asksOf l) r n a) ∙ h) in omega (arith, length-most 10 n (omega arith) (omega arith))
+fits-row (two l n a b) h =
+    let k = two-digits n in
+    let most : n ≤ 14 = input-most n 2 (sym (permits-for (asksOf l) Input n a) ∙ h) .1 in
+    rw (k .1) (omega (arith, k .2 (omega arith), length-append (replicate (k .0) 48) (decimal n), length-replicate {A = ℕ} (k .0) 48))
+
+pub spells-itself : (c : Command) → inRange c ≡ true → SpellsCommand c (spelledOf c)
+unfolding spelledOf inRange
+spells-itself c h = rw (← zeroed-none (spellingOf c)) (full c 0 (fits-row (row-of c) h))
 
 -- no digit may follow any command
 pub follows-any : (sp : Spelling) (rest : List ℕ) → digitRun rest ≡ [] → follows sp rest
@@ -183,7 +221,7 @@ pub reads-back : (s rest : List ℕ) (at : ℕ) (c : Command) → drop at s ≡ 
 unfolding inRange spelledOf
 reads-back s rest at c e t =
     let z = zeroed-none (spellingOf c) in
-    read-row (row-of c) s rest at 0 (e ∙ ap (λ (b : List ℕ). b ++ rest) (sym z)) (follows-any (spellingOf c) rest t) ∙ rw z
+    read-row (row-of c) s rest at 0 (fits-row (row-of c)) (e ∙ ap (λ (b : List ℕ). b ++ rest) (sym z)) (follows-any (spellingOf c) rest t) ∙ rw z
 
 -- ---- what reads as a command is a spelling of it
 
@@ -271,8 +309,8 @@ command-at s b at next c sp q w e h p t = record {
   ends = subst (λ (x : Spelling). follows x (drop next s)) (sym q) t;
 }
 
-full-as : (c : Command) (z : ℕ) {sp : Spelling} → spellingOf c ≡ sp → SpellsCommand c (zeroed sp z)
-full-as c z e = subst (λ (x : Spelling). SpellsCommand c (zeroed x z)) e (full c z)
+full-as : (c : Command) (z : ℕ) {sp : Spelling} → spellingOf c ≡ sp → length (zeroed sp z) ≤ 1 + operandMost → SpellsCommand c (zeroed sp z)
+full-as c z e h = subst (λ (x : Spelling). SpellsCommand c (zeroed x z)) e (full c z (rw e h))
 
 -- a letter at a place, and what it asks
 module _ (s : List ℕ) (at l : ℕ) (here : drop at s ≡ l ∷ drop (at + 1) s) where
@@ -282,25 +320,28 @@ module _ (s : List ℕ) (at l : ℕ) (here : drop at s ≡ l ∷ drop (at + 1) s
   refused : {f : Fault} {c : Command} {n : ℕ} → Bad f ≡ At c n → CommandAt s at c n
   refused e = let z : _≡_ {A = ℕ} 0 1 = cc in absurd (omega arith)
 
-  as-number : (r : Range) (m next : ℕ) → AsksFor (asksOf l) r → spellingOf (commandOf l m) ≡ spellingIn r l m → operandAt s (at + 1) ≡ Number m next
+  as-number : (r : Range) (m next : ℕ) → AsksFor (asksOf l) r → spellingOf (commandOf l m) ≡ spellingIn r l m → operandUpTo operandMost s (at + 1) ≡ Number m next
       → within r m (next - (at + 1)) ≡ true → CommandAt s at (commandOf l m) next
   as-number r m next a q w t =
-      let k = spelled s (at + 1) m next w in
+      let there = up-to-number operandMost s (at + 1) m next w in
+      let k = spelled s (at + 1) m next (there .0) in
       let z : ℕ = k .zeros in
+      let long : length (spelling z m) ≡ z + length (decimal m) = length-append (replicate z 48) (decimal m) ∙ omega (arith, length-replicate {A = ℕ} z 48) in
+      let few : z + length (decimal m) ≤ operandMost = omega (arith, there .1, read-length s (drop next s) (at + 1) z m (k .bytes) (k .no-more)) in
       let count : z + length (decimal m) ≡ next - (at + 1) = omega (arith, k .ends) in
       let y = spelled-in r l m z (next - (at + 1)) count t in
       command-at s (l ∷ spelling z m) at next (commandOf l m) (spellingIn r l m) q
-      (rw (← y .1) (full-as (commandOf l m) (y .0) q))
+      (rw (← y .1) (full-as (commandOf l m) (y .0) q (rw (y .1) (omega (arith, long, few)))))
       (here ∙ ap (λ (b : List ℕ). l ∷ b) (k .bytes))
-      (omega (arith, k .ends, length-append (replicate z 48) (decimal m), length-replicate {A = ℕ} z 48))
+      (omega (arith, k .ends, long))
       (permitted-in r l m ∙ permits-for (asksOf l) r m a ∙ within-two r m (next - (at + 1)) t)
       (follows-any (spellingIn r l m) (drop next s) (k .no-more))
 
   as-required : (r : Range) → AsksFor (asksOf l) r → ((n : ℕ) → spellingOf (commandOf l n) ≡ spellingIn r l n)
-      → {c : Command} {n : ℕ} → required l r (operandAt s (at + 1)) (at + 1) ≡ At c n → CommandAt s at c n
-  as-required r a q {c} {n} e = go (operandAt s (at + 1)) refl e
+      → {c : Command} {n : ℕ} → required l r (operandUpTo operandMost s (at + 1)) (at + 1) ≡ At c n → CommandAt s at c n
+  as-required r a q {c} {n} e = go (operandUpTo operandMost s (at + 1)) refl e
     where
-      go : (o : Operand) → operandAt s (at + 1) ≡ o → required l r o (at + 1) ≡ At c n → CommandAt s at c n
+      go : (o : Operand) → operandUpTo operandMost s (at + 1) ≡ o → required l r o (at + 1) ≡ At c n → CommandAt s at c n
       go Missing w k = refused k
       go (Above next) w k = refused k
       go (Number m next) w k = taken (within r m (next - (at + 1))) refl k
@@ -309,33 +350,33 @@ module _ (s : List ℕ) (at l : ℕ) (here : drop at s ≡ l ∷ drop (at + 1) s
           taken true t j = moved j (as-number r m next a (q m) w t)
           taken false t j = refused j
 
-  as-bare : (r : Range) (m : ℕ) → Says m l (OrElse r m) (λ n. commandOf l n) → operandAt s (at + 1) ≡ Missing → CommandAt s at (commandOf l m) (at + 1)
-  unfolding operandAt inRange
+  as-bare : (r : Range) (m : ℕ) → Says m l (OrElse r m) (λ n. commandOf l n) → operandUpTo operandMost s (at + 1) ≡ Missing → CommandAt s at (commandOf l m) (at + 1)
+  unfolding inRange
   as-bare r m (named q w) e =
       let b = bare-spells w in
       command-at s (l ∷ []) at (at + 1) (commandOf l m) (spellingIn r l m) q (b .0) here (omega arith)
       (sym (ap permitted q) ∙ b .1)
-      (follows-any (spellingIn r l m) (drop (at + 1) s) (missing-run _ _ e))
+      (follows-any (spellingIn r l m) (drop (at + 1) s) (up-to-missing operandMost s (at + 1) e))
 
-  as-letter : (k : Asks) → asksOf l ≡ k → ((n : ℕ) → Says n l k (λ m. commandOf l m)) → {c : Command} {n : ℕ} → letterAt k l s (at + 1) ≡ At c n → CommandAt s at c n
+  as-letter : (k : Asks) → asksOf l ≡ k → ((n : ℕ) → Says n l k (λ m. commandOf l m)) → {c : Command} {n : ℕ} → letterAt operandMost k l s (at + 1) ≡ At c n → CommandAt s at c n
   as-letter Unknown a w e = refused e
-  as-letter Nothing a w e = moved e (command-at s (l ∷ []) at (at + 1) (commandOf l 0) (Alone l) (w 0) (full-as (commandOf l 0) 0 (w 0)) here (omega arith) (rw a refl) tt)
+  as-letter Nothing a w e = moved e (command-at s (l ∷ []) at (at + 1) (commandOf l 0) (Alone l) (w 0) (full-as (commandOf l 0) 0 (w 0) (omega arith)) here (omega arith) (rw a refl) tt)
   as-letter (Required r) a w e = as-required r (rw a refl) w e
-  as-letter (OrElse r m) a w {c} {n} e = go (operandAt s (at + 1)) refl e
+  as-letter (OrElse r m) a w {c} {n} e = go (operandUpTo operandMost s (at + 1)) refl e
     where
-      go : (o : Operand) → operandAt s (at + 1) ≡ o → orElse l r m o (at + 1) ≡ At c n → CommandAt s at c n
+      go : (o : Operand) → operandUpTo operandMost s (at + 1) ≡ o → orElse l r m o (at + 1) ≡ At c n → CommandAt s at c n
       go Missing q k = moved k (as-bare r m (w m) q)
       go (Above next) q k = refused k
       go (Number i next) q k = as-required r (rw a refl) (λ j. named-spelling (w j)) (rw q k)
 
 pub spells-as : (s : List ℕ) (at : ℕ) (c : Command) (next : ℕ) → readAt s at ≡ At c next → CommandAt s at c next
-unfolding readAt
+unfolding readBy
 spells-as s at c next e = go (ltb at (length s)) refl e
   where
     l : ℕ
     l = getD s at 0
 
-    go : (b : Bool) → ltb at (length s) ≡ b → cond b (letterAt (asksOf l) l s (at + 1)) End ≡ At c next → CommandAt s at c next
+    go : (b : Bool) → ltb at (length s) ≡ b → cond b (letterAt operandMost (asksOf l) l s (at + 1)) End ≡ At c next → CommandAt s at c next
     go true q k =
         let here : drop at s ≡ l ∷ drop (at + 1) s = rw add-one (drop-cons s at 0 (ltb-true at (length s) q)) in
         as-letter s at l here (asksOf l) refl (λ n. says n l) k
@@ -396,9 +437,13 @@ row-letter (two l n a b) z = let k = two-digits n in record {
 
 pub letter-first : (c : Command) (b : List ℕ) → SpellsCommand c b → LetterFirst b
 unfolding letters table oneOf
-letter-first c b (full d z) = row-letter (row-of d) z
+letter-first c b (full d z w) = row-letter (row-of d) z
 letter-first c b bareG = record { letter = 71; digits = []; bytes = refl; known = refl; all = λ i h. absurd (omega arith) }
 letter-first c b bareH = record { letter = 72; digits = []; bytes = refl; known = refl; all = λ i h. absurd (omega arith) }
+
+pub letter-written : (c : Command) → LetterFirst (spelledOf c)
+unfolding spelledOf
+letter-written c = rw (← zeroed-none (spellingOf c)) (row-letter (row-of c) 0)
 
 -- every letter of the table: no digit, none of those that have a meaning of their own, and printable
 module _ (l : ℕ) (h : oneOf (letters table) l ≡ true) where
@@ -415,25 +460,37 @@ module _ (l : ℕ) (h : oneOf (letters table) l ≡ true) where
   letter-printable =
       (leb-true 32 l (each-one (λ (x : ℕ). leb 32 x) (letters table) l refl h), leb-true l 126 (each-one (λ (x : ℕ). leb x 126) (letters table) l refl h))
 
-module _ (c : Command) (b : List ℕ) (w : SpellsCommand c b) where
+module _ (b : List ℕ) (k : LetterFirst b) where
   pub spelling-some : 1 ≤ length b
-  spelling-some = let k = letter-first c b w in omega (arith, ap length (k .bytes))
+  spelling-some = omega (arith, ap length (k .bytes))
 
   pub spelling-no-digit : (rest : List ℕ) → digitRun (b ++ rest) ≡ []
-  spelling-no-digit rest = let k = letter-first c b w in rw (k .bytes) (no-digit (k .letter) (k .digits ++ rest) (letter-no-digit (k .letter) (k .known)))
+  spelling-no-digit rest = rw (k .bytes) (no-digit (k .letter) (k .digits ++ rest) (letter-no-digit (k .letter) (k .known)))
 
   pub spelling-apart : oneOf apart (getD b 0 0) ≡ false
-  spelling-apart = let k = letter-first c b w in rw (k .bytes) (letter-apart (k .letter) (k .known))
+  spelling-apart = rw (k .bytes) (letter-apart (k .letter) (k .known))
+
+  -- before what has no run of too many digits and begins with none
+  pub spelling-few : length b ≤ 1 + operandMost → (rest : List ℕ) → digitRun rest ≡ [] → fewDigits operandMost rest ≡ true → fewDigits operandMost (b ++ rest) ≡ true
+  spelling-few h rest t f =
+      let few = few-digits operandMost (k .digits) rest (k .all) t .1 (omega (arith, ap length (k .bytes))) f in
+      rw (k .bytes) (few-no-digit operandMost (k .letter) (k .digits ++ rest) (letter-no-digit (k .letter) (k .known)) few)
 
   pub spelling-printable : (i : ℕ) → i < length b → (32 ≤ getD b i 0) × (getD b i 0 ≤ 126)
-  spelling-printable i h = let k = letter-first c b w in rw (k .bytes) (go k i (omega (arith, ap length (k .bytes))))
+  spelling-printable i h = rw (k .bytes) (go i (omega (arith, ap length (k .bytes))))
     where
-      go : (k : LetterFirst b) (i : ℕ) → i < suc (length (k .digits)) → (32 ≤ getD (k .letter ∷ k .digits) i 0) × (getD (k .letter ∷ k .digits) i 0 ≤ 126)
-      go k zero q = letter-printable (k .letter) (k .known)
-      go k (suc i) q =
+      go : (i : ℕ) → i < suc (length (k .digits)) → (32 ≤ getD (k .letter ∷ k .digits) i 0) × (getD (k .letter ∷ k .digits) i 0 ≤ 126)
+      go zero q = letter-printable (k .letter) (k .known)
+      go (suc i) q =
           let x : ℕ = getD (k .digits) i 0 in
           let y = and-eq-true-iff (leb 48 x) (leb x 57) .0 (k .all i (omega arith)) in
           (omega (arith, leb-true 48 x (y .0)), omega (arith, leb-true x 57 (y .1)))
+
+-- a spelling's length
+pub spelling-most : (c : Command) (b : List ℕ) → SpellsCommand c b → length b ≤ 1 + operandMost
+spelling-most c b (full d z w) = w
+spelling-most c b bareG = omega arith
+spelling-most c b bareH = omega arith
 
 -- ---- the same command elsewhere
 

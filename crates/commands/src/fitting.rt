@@ -11,15 +11,15 @@ use crate::Range;
 use crate::table;
 use digits::Operand;
 
-// The number of a letter that asks so, with its operand from a place of s.
-pub(crate) fn fit_at(asks: Asks, s: &[u8], at: usize) -> Fitted
-    ensures { λ r. ⌜ ((l : ℕ) → finished l at r ≡ letterAt asks l (now (s .entry)) at) ⌝ }
+// The number of a letter that asks so, with its operand from a place of s, of so many digits at most.
+pub(crate) fn fit_at(asks: Asks, s: &[u8], at: usize, most: usize) -> Fitted
+    ensures { λ r. ⌜ ((l : ℕ) → finished l at r ≡ letterAt most asks l (now (s .entry)) at) ⌝ }
 {
     match asks {
         Asks::Unknown => Fitted::Fails(2),
         Asks::Nothing => Fitted::Fits(0, at),
-        Asks::Required(range) => fit_required(range, digits::read_operand(s, at), at),
-        Asks::OrElse(range, m) => fit_or(range, m, digits::read_operand(s, at), at),
+        Asks::Required(range) => fit_required(range, digits::read_up_to(s, at, most), at),
+        Asks::OrElse(range, m) => fit_or(range, m, digits::read_up_to(s, at, most), at),
     }
 }
 

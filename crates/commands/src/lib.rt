@@ -6,7 +6,7 @@ mod writing;
 ghost use mathlib.Core.Path.{_≡_};
 ghost use Rattle.digits.specs.Decimal.{WrittenIs};
 ghost use Rattle.commands.specs.Table.{namedOf, exponentOf};
-ghost use Rattle.commands.specs.Reading.{readAt};
+ghost use Rattle.commands.specs.Reading.{readBy, readAt};
 ghost use Rattle.commands.specs.Writing.{spelled};
 ghost use Rattle.commands.specs.Claims.{CommandClaims};
 use digits::Written;
@@ -120,6 +120,13 @@ enum Fitted {
 pub fn read_command(s: &[u8], at: usize) -> Read
     ensures { λ r. ⌜ r ≡ readAt (now (s .entry)) at ⌝ }
 {
+    read_by(s, at, digits::OPERAND_MOST)
+}
+
+// The same where an operand has so many digits at most.
+pub fn read_by(s: &[u8], at: usize, most: usize) -> Read
+    ensures { λ r. ⌜ r ≡ readBy most (now (s .entry)) at ⌝ }
+{
     if s.len() <= at {
         return Read::End;
     }
@@ -127,7 +134,7 @@ pub fn read_command(s: &[u8], at: usize) -> Read
     let row = table::row_of(letter);
     let asks = row.asks;
     let command = row.command;
-    let fitted = fitting::fit_at(asks, s, at + 1);
+    let fitted = fitting::fit_at(asks, s, at + 1, most);
     match fitted {
         Fitted::Fits(n, next) => Read::At(fitting::numbered(command, n), next),
         Fitted::Fails(code) => Read::Bad(Fault {

@@ -11,7 +11,7 @@ use lib.ListN.{length, getD, drop, replicate, length-append, length-drop, length
 use lib.Seq.{drop-drop}
 use borrow.Author.Tests.{lt-ltb, le-ltb, le-leb, lt-leb, leb-true}
 use Rattle.digits.specs.declared.Operand.the-variants.{Missing, Number, Above}
-use Rattle.digits.specs.Operand.{isDigit, digitRun, valueAfter, widest, numberTo, operandOf, operandAt}
+use Rattle.digits.specs.Operand.{isDigit, digitRun, valueAfter, widest, numberTo, operandOf, operandAt, operandUpTo}
 use Rattle.digits.specs.Decimal.{digitsIn, digitsOf, ascii, decimal}
 use Rattle.digits.specs.ReadBack.{spelling, SpelledAt}
 use Rattle.digits.proofs.Reading.{run-within}
@@ -204,6 +204,57 @@ pub above-past : (s : List ℕ) (at next : ℕ) → operandAt s at ≡ Above nex
 unfolding operandAt
 above-past s at next e = let k = above-run (digitRun (drop at s)) _ next e in run-past s at next (k .1) (k .2)
 
+-- ---- where so many digits are the most
+
+module _ (most : ℕ) (s : List ℕ) (at : ℕ) where
+  pub up-to-few : length (digitRun (drop at s)) ≤ most → operandUpTo most s at ≡ operandAt s at
+  unfolding operandUpTo
+  up-to-few h = rw (le-leb (length (digitRun (drop at s))) most h)
+
+  pub up-to-many : most < length (digitRun (drop at s)) → operandUpTo most s at ≡ Above (at + length (digitRun (drop at s)))
+  unfolding operandUpTo
+  up-to-many h = rw (lt-leb (length (digitRun (drop at s))) most h)
+
+  -- what is read, limited
+  pub limit-missing : operandAt s at ≡ Missing → Missing ≡ operandUpTo most s at
+  unfolding operandUpTo operandAt
+  limit-missing e = let run : digitRun (drop at s) ≡ [] = missing-run (digitRun (drop at s)) _ e in sym (rw (run, le-leb 0 most (omega arith)) (rw run at e))
+
+  pub limit-number : (n next : ℕ) → operandAt s at ≡ Number n next → cond (leb (next - at) most) (Number n next) (Above next) ≡ operandUpTo most s at
+  unfolding operandUpTo operandAt
+  limit-number n next e =
+      let k = number-run (digitRun (drop at s)) _ n next e in
+      let past : next ≡ at + length (digitRun (drop at s)) = k .1 in
+      let long : next - at ≡ length (digitRun (drop at s)) = omega arith in
+      rw (long, e, past)
+
+  pub limit-above : (next : ℕ) → operandAt s at ≡ Above next → Above next ≡ operandUpTo most s at
+  unfolding operandUpTo operandAt
+  limit-above next e =
+      let k = above-run (digitRun (drop at s)) _ next e in
+      let past : next ≡ at + length (digitRun (drop at s)) = k .1 in
+      rw (e, past) (go (leb (length (digitRun (drop at s))) most))
+    where
+      go : (b : Bool) → Above (at + length (digitRun (drop at s))) ≡ cond b (Above (at + length (digitRun (drop at s)))) (Above (at + length (digitRun (drop at s))))
+      go true = refl
+      go false = refl
+
+  -- a number was read, and its digits are not too many
+  pub up-to-number : (n next : ℕ) → operandUpTo most s at ≡ Number n next → (operandAt s at ≡ Number n next) × (length (digitRun (drop at s)) ≤ most)
+  up-to-number n next e = go (decLt most (length (digitRun (drop at s))))
+    where
+      go : Dec (most < length (digitRun (drop at s))) → (operandAt s at ≡ Number n next) × (length (digitRun (drop at s)) ≤ most)
+      go (yes l) = let f = up-to-many l in let z : _≡_ {A = ℕ} 0 1 = cc in absurd (omega arith)
+      go (no m) = let l : length (digitRun (drop at s)) ≤ most = omega arith in (sym (up-to-few l) ∙ e, l)
+
+  pub up-to-missing : operandUpTo most s at ≡ Missing → digitRun (drop at s) ≡ []
+  unfolding operandAt
+  up-to-missing e = go (decLt most (length (digitRun (drop at s))))
+    where
+      go : Dec (most < length (digitRun (drop at s))) → digitRun (drop at s) ≡ []
+      go (yes l) = let f = up-to-many l in let z : _≡_ {A = ℕ} 0 1 = cc in absurd (omega arith)
+      go (no m) = missing-run (digitRun (drop at s)) _ (sym (up-to-few (omega arith)) ∙ e)
+
 -- ---- the claims
 
 -- a spelling, as the bytes of its digits
@@ -223,6 +274,18 @@ read-back s rest at z n e t =
     let long : length ds ≡ z + length (decimal n) = length-spelled z n in
     let value : valueAfter 0 ds ≡ n = value-zeros z (digitsOf n) ∙ digits-value n in
     rw (run, ← long) (operand-of ds (at + length ds) (omega (arith, length-some n)) ∙ ap (λ (v : ℕ). numberTo v (at + length ds)) value)
+
+-- the digits of a spelling
+pub read-length : (s rest : List ℕ) (at z n : ℕ) → drop at s ≡ spelling z n ++ rest → digitRun rest ≡ [] → length (digitRun (drop at s)) ≡ z + length (decimal n)
+read-length s rest at z n e t =
+    ap (λ (l : List ℕ). length (digitRun l)) (e ∙ ap (λ (l : List ℕ). l ++ rest) (spelling-is z n))
+    ∙ ap length (run-back rest (digits-append (zeros z) (digits-digits n)) t)
+    ∙ length-spelled z n
+
+pub read-limited : (most : ℕ) (s rest : List ℕ) (at z n : ℕ) → drop at s ≡ spelling z n ++ rest → digitRun rest ≡ []
+    → operandUpTo most s at ≡ cond (leb (z + length (decimal n)) most) (numberTo n (at + (z + length (decimal n)))) (Above (at + (z + length (decimal n))))
+unfolding operandUpTo
+read-limited most s rest at z n e t = rw (read-length s rest at z n e t, read-back s rest at z n e t)
 
 -- the same without leading zeros
 pub read-plain : (s rest : List ℕ) (at n : ℕ) → drop at s ≡ decimal n ++ rest → digitRun rest ≡ [] → operandAt s at ≡ numberTo n (at + length (decimal n))

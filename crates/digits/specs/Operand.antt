@@ -1,8 +1,8 @@
--- Operands: "an operand is the longest run of digits", "decimal, leading zeros allowed". 01, "Lines".
+-- Operands: "an operand is the longest run of digits", "decimal, leading zeros allowed". 01, "Lines"; 02, E9.
 -- The value is a number of any size: nothing wraps. Assumes nothing.
 use Prim.Native.Nat.{ℕ, _+_, _-_, _*_}
 use mathlib.Core.List.{List, [], _∷_}
-use mathlib.Core.Bool.{Bool, cond, _&&_}
+use mathlib.Core.Bool.{Bool, true, cond, _&&_}
 use lib.ListN.{length, drop}
 use lib.Dec.{leb}
 use Rattle.digits.specs.declared.Operand.{Operand}
@@ -38,3 +38,17 @@ operandOf (d ∷ ds) next = numberTo (valueAfter 0 (d ∷ ds)) next
 -- the operand that stands at a place of s, with the place past it
 unfoldable pub operandAt : List ℕ → ℕ → Operand
 operandAt s at = operandOf (digitRun (drop at s)) (at + length (digitRun (drop at s)))
+
+-- 02, E9: "an operand of more than ten digits is refused"
+abbrev pub operandMost : ℕ
+operandMost = 10
+
+-- the operand at a place where so many digits are the most: a longer run is above all ranges, whatever it stands for
+unfoldable pub operandUpTo : ℕ → List ℕ → ℕ → Operand
+operandUpTo most s at =
+    cond (leb (length (digitRun (drop at s))) most) (operandAt s at) (Above (at + length (digitRun (drop at s))))
+
+-- whether no run of digits is longer
+unfoldable pub fewDigits : ℕ → List ℕ → Bool
+fewDigits most [] = true
+fewDigits most (b ∷ bs) = leb (length (digitRun (b ∷ bs))) most && fewDigits most bs

@@ -3,8 +3,10 @@
 use Prim.Native.Nat.{ℕ, _+_, _^_, _<_}
 use mathlib.Core.List.{List, [], _∷_, _++_}
 use mathlib.Core.Path.{_≡_}
+use mathlib.Core.Bool.{cond}
+use lib.Dec.{leb}
 use lib.ListN.{length, drop, replicate}
-use Rattle.digits.specs.Operand.{digitRun, valueAfter, numberTo, operandAt}
+use Rattle.digits.specs.Operand.{digitRun, valueAfter, numberTo, operandAt, operandMost, operandUpTo}
 use Rattle.digits.specs.Decimal.{decimal}
 use Rattle.digits.specs.declared.Operand.the-variants.{Number, Above}
 
@@ -25,6 +27,11 @@ pub record DigitClaims : Type 0 where
       → operandAt s at ≡ numberTo n (at + (z + length (decimal n)))
   -- what reads as n is a spelling of n
   pub spelled : (s : List ℕ) (at n next : ℕ) → operandAt s at ≡ Number n next → SpelledAt s at n next
+  -- 02, E9: where the digits are limited, a spelling of n reads as n exactly while it has so many at most, leading zeros counted:
+  -- for every limit and every n
+  pub reads-limited : (most : ℕ) (s rest : List ℕ) (at z n : ℕ) → drop at s ≡ spelling z n ++ rest → digitRun rest ≡ []
+      → operandUpTo most s at
+      ≡ cond (leb (z + length (decimal n)) most) (numberTo n (at + (z + length (decimal n)))) (Above (at + (z + length (decimal n))))
   -- no two numbers are written alike
   pub written-apart : (m n : ℕ) → decimal m ≡ decimal n → m ≡ n
   -- a run of digits stands for less than ten to its length
@@ -32,3 +39,7 @@ pub record DigitClaims : Type 0 where
   -- 4294967297 does not become 1, and no longer run wraps
   pub no-wrap : operandAt (52 ∷ 50 ∷ 57 ∷ 52 ∷ 57 ∷ 54 ∷ 55 ∷ 50 ∷ 57 ∷ 55 ∷ []) 0 ≡ Above 10
   pub nines : operandAt (replicate 256 57) 0 ≡ Above 256
+  -- ten digits are read, eleven are not, zeros or not
+  pub ten : operandUpTo operandMost (spelling 9 5) 0 ≡ Number 5 10
+  pub eleven : operandUpTo operandMost (spelling 10 5) 0 ≡ Above 11
+  pub eleven-zeros : operandUpTo operandMost (replicate 11 48) 0 ≡ Above 11

@@ -4,10 +4,10 @@ mod taking;
 ghost use mathlib.Core.Path.{_≡_};
 ghost use mathlib.Core.List.{[], _∷_};
 ghost use mathlib.Core.Bool.{cond};
-ghost use Prim.Native.Nat.{_+_, _*_, _<_, _≤_, min};
+ghost use Prim.Native.Nat.{_+_, _-_, _*_, _<_, _≤_, min};
 ghost use lib.ListN.{drop};
-ghost use lib.Dec.{ltb};
-ghost use Rattle.digits.specs.Operand.{digitRun, widest, operandAt};
+ghost use lib.Dec.{ltb, leb};
+ghost use Rattle.digits.specs.Operand.{digitRun, widest, operandAt, operandUpTo};
 ghost use Rattle.digits.specs.Decimal.{decimal, WrittenIs};
 ghost use Rattle.digits.specs.ReadBack.{DigitClaims};
 
@@ -16,7 +16,7 @@ pub enum Operand {
     Missing,
     // The value, and the place past the run.
     Number(u32, usize),
-    // The value is more than 32 bits hold; the place past the run.
+    // The value is more than 32 bits hold, or the digits are more than may be; the place past the run.
     Above(usize),
 }
 
@@ -31,6 +31,9 @@ pub enum Written {
 const WIDEST: u64 = 4294967295;
 
 const TOO_WIDE: u64 = WIDEST + 1;
+
+// The most digits of an operand.
+pub const OPERAND_MOST: usize = 10;
 
 // The operand at a place of s: the longest run of digits.
 pub fn read_operand(s: &[u8], at: usize) -> Operand
@@ -51,6 +54,30 @@ pub fn read_operand(s: &[u8], at: usize) -> Operand
         Operand::Number(v as u32, i)
     } else {
         Operand::Above(i)
+    }
+}
+
+// The same where so many digits are the most.
+pub fn read_up_to(s: &[u8], at: usize, most: usize) -> Operand
+    ensures { λ r. ⌜ r ≡ operandUpTo most (now (s .entry)) at ⌝ }
+{
+    let operand = read_operand(s, at);
+    match operand {
+        Operand::Missing => Operand::Missing,
+        Operand::Number(n, next) => limited(n, next, at, most),
+        Operand::Above(next) => Operand::Above(next),
+    }
+}
+
+// A number whose digits stand from one place to another, where they are not too many.
+fn limited(n: u32, next: usize, at: usize, most: usize) -> Operand
+    requires { ⌜ at ≤ next ⌝ }
+    ensures { λ r. ⌜ r ≡ cond (leb (next - at) most) (Operand.Number n next) (Operand.Above next) ⌝ }
+{
+    if next - at <= most {
+        Operand::Number(n, next)
+    } else {
+        Operand::Above(next)
     }
 }
 

@@ -1,12 +1,12 @@
--- The calls that firmware makes: start, feed, turn. 01, "Frames", "What comes back", "Image of the programs", "A turn"; 02, E1.
+-- The calls that firmware makes: start, feed, turn. 01, "Frames", "What comes back", "Image of the programs", "A turn"; 02, E1 and E9.
 -- Assumes nothing.
 use Prim.Native.Nat.{ℕ}
 use mathlib.Core.List.{List, []}
-use mathlib.Core.Bool.{cond, not}
+use mathlib.Core.Bool.{Bool, true, false, cond, not}
 use lib.ListN.{length}
 use lib.Dec.{ltb}
 use Rattle.parts.specs.Parts.{putIn, paddedText}
-use Rattle.image.specs.Image.{rightLength, slots, slotsGood, slotText}
+use Rattle.image.specs.Image.{rightLength, slots, slotGood, slotsOlder, slotText}
 use Rattle.frames.specs.declared.Frame.{Frame}
 use Rattle.frames.specs.declared.Framing.{Framing}
 use Rattle.frames.specs.Addresses.{isUnit}
@@ -15,7 +15,7 @@ use Rattle.turns.specs.declared.Core.{Core}
 use Rattle.turns.specs.declared.Action.{Action}
 use Rattle.turns.specs.declared.Direction.{Direction}
 use Rattle.turns.specs.declared.Stepped.{Stepped}
-use Rattle.turns.specs.Turns.{freshCore, started, turnCore, textAfter, actionAnswered}
+use Rattle.turns.specs.Turns.{freshCore, started, ended, turnCore, textAfter, actionAnswered}
 use Rattle.answers.specs.Packet.{packet, packetBytes, statusOf}
 use Rattle.answers.specs.Oem.{oemPacket}
 use Rattle.obeying.specs.declared.Obeyed.{Obeyed}
@@ -44,20 +44,27 @@ freshReceiver body = receiverOf freshProgress body
 abbrev pub begunWith : ℕ → Core
 begunWith n = cond (ltb 0 n) (started n freshCore) freshCore
 
+-- 02, E9: a program stored earlier with an operand of more than ten digits counts as bad, so it has no text, and "as program 0
+-- leaves it idle, the current text empty, holding 1"
+abbrev pub begunOn : Bool → ℕ → Core
+begunOn true n = begunWith n
+begunOn false n = ended 1 freshCore
+
 unfoldable pub freshUnit : ℕ → List ℕ → List ℕ → Drive
 freshUnit number image body =
-    drive number (freshReceiver body) (paddedText (slotText image 0)) (begunWith (length (slotText image 0))) Last.Never
+    drive number (freshReceiver body) (paddedText (slotText image 0)) (begunOn (slotGood image 0) (length (slotText image 0))) Last.Never
 
 -- "no unit": the record of number 0, which no address calls, idle; the texts are as they were lent
 unfoldable pub noUnit : List ℕ → List ℕ → Drive
 noUnit body text = drive 0 (freshReceiver body) text freshCore Last.Never
 
--- "at start: unit number not 1 to 16, then image not 4,160 bytes, then bad image"
+-- "at start: unit number not 1 to 16, then image not 4,160 bytes, then bad image"; 02, E9: a program stored earlier with an operand
+-- of more than ten digits "at start .. does not refuse the unit"
 unfoldable pub startOf : ℕ → List ℕ → List ℕ → List ℕ → Starting
 startOf number image body text =
     cond (isUnit number)
     (cond (rightLength image)
-    (cond (slotsGood image slots) (starting StartAnswer.Started (freshUnit number image body)) (starting StartAnswer.ImageBad (noUnit body text)))
+    (cond (slotsOlder image slots) (starting StartAnswer.Started (freshUnit number image body)) (starting StartAnswer.ImageBad (noUnit body text)))
     (starting StartAnswer.ImageLength (noUnit body text)))
     (starting StartAnswer.UnitNumber (noUnit body text))
 

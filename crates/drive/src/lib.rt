@@ -86,7 +86,8 @@ pub(crate) const BODY_BYTES: usize = 257;
 
 pub(crate) const TEXT_BYTES: usize = 256;
 
-// The unit of a number, idle or running program 0 of the image. A refused start leaves the texts as they were lent.
+// The unit of a number, idle or running program 0 of the image. Operands of too many digits in programs stored earlier do not
+// refuse it. A refused start leaves the texts as they were lent.
 pub fn start(
     number: u8,
     image: &[u8],
@@ -101,7 +102,7 @@ pub fn start(
     if !starting::is_unit(number) {
         return starting::refuse_start(StartAnswer::UnitNumber);
     }
-    let checked = image::check_image(image);
+    let checked = image::check_older(image);
     match checked {
         Checked::Good => starting::start_unit(number, image, text),
         Checked::WrongLength => starting::refuse_start(StartAnswer::ImageLength),

@@ -11,10 +11,10 @@ use borrow.Author.Tests.{leb-true, le-leb, le-ltb, eq-eqb, eqb-true}
 use Rattle.parts.specs.Parts.{same}
 use Rattle.parts.proofs.Laws.{cases}
 use Rattle.digits.specs.declared.Operand.the-variants.{Number}
-use Rattle.digits.specs.Operand.{digitRun, widest, operandAt}
+use Rattle.digits.specs.Operand.{digitRun, widest, operandAt, operandMost, operandUpTo}
 use Rattle.digits.specs.Decimal.{decimal}
 use Rattle.digits.specs.ReadBack.{spelling}
-use Rattle.digits.proofs.ReadBack.{read-back}
+use Rattle.digits.proofs.ReadBack.{read-back, read-limited}
 use Rattle.commands.specs.declared.Command.{Command}
 use Rattle.commands.specs.declared.Command.the-variants.{LoopBegin, LoopEnd, Skip, Jump, Plain}
 use Rattle.commands.specs.declared.Act.{Act}
@@ -45,7 +45,7 @@ use Rattle.turns.specs.Ends.{Reads}
 use Rattle.turns.proofs.TurnLaws.{at-command, at-wait}
 use Rattle.obeying.specs.declared.Obeyed.{Obeyed}
 use Rattle.obeying.specs.Speed.{speedLine, operandEnd}
-use Rattle.obeying.specs.Obeying.{loadedAs, silent, bodyObeyed}
+use Rattle.obeying.specs.Obeying.{loadedAs, refused, silent, bodyObeyed}
 use Rattle.obeying.specs.Deeds.{Speeds, Obeys, refuses, tells, stores, clears, stops, resumes, speeds, again, loads}
 use Rattle.obeying.proofs.SpeedLaws.{speed-code}
 use Rattle.drive.specs.Unit.{Drive}
@@ -87,22 +87,29 @@ way : {c : Core} {n : ℕ} {body : List ℕ} (s : Speeds body c n) → OnTheWay 
 way {c} {n} s =
     let w = endless-wait (c .motor .wait) (s .endless) in
     let r = in-range n (s .in-range) in
-    record { runs = s .runs; up = w .0; left = w .1; endless = w .2; least = r .0; most = r .1; short = subst (λ (b : List ℕ). length b ≤ mostBytes) (s .whole) (s .short) }
+    record { runs = s .runs; up = w .0; left = w .1; endless = w .2; least = r .0; most = r .1; few = s .few }
+
+is-line : (zeros n : ℕ) → length (speedBody zeros n) ≤ mostBytes → bodyOf (speedBody zeros n) ≡ Body.Line
+unfolding bodyOf oneOf same
+is-line zeros n short = rw (le-ltb mostBytes (length (speedBody zeros n)) short)
 
 module _ {c : Core} {zeros n : ℕ} (w : OnTheWay c zeros n) where
   abbrev b : List ℕ
   b = speedBody zeros n
 
-  is-line : bodyOf b ≡ Body.Line
-  unfolding bodyOf oneOf same
-  is-line = rw (le-ltb mostBytes (length b) (w .short))
-
   long : length b ≡ zeros + length (decimal n) + 2
   long = omega (arith, length-append (spelling zeros n) (82 ∷ []), length-append (replicate zeros 48) (decimal n), length-replicate {A = ℕ} zeros 48)
+
+  line : bodyOf b ≡ Body.Line
+  line = is-line zeros n (omega (arith, long, w .few))
 
   operand : operandAt b 1 ≡ Number n (1 + (zeros + length (decimal n)))
   unfolding digitRun
   operand = read-back b (82 ∷ []) 1 zeros n refl refl ∙ rw (le-leb n widest (omega (arith, w .most)))
+
+  limited : operandUpTo operandMost b 1 ≡ Number n (1 + (zeros + length (decimal n)))
+  unfolding digitRun
+  limited = read-limited operandMost b (82 ∷ []) 1 zeros n refl refl ∙ rw (le-leb (zeros + length (decimal n)) operandMost (w .few), le-leb n widest (omega (arith, w .most)))
 
   exact : speedLine b ≡ true
   unfolding speedLine endsWithR
@@ -113,11 +120,21 @@ module _ {c : Core} {zeros n : ℕ} (w : OnTheWay c zeros n) where
 
   taken : lineFault b .code ≡ 0
   unfolding lineFault
-  taken = subst (λ (k : Body). bodyFault k b .code ≡ 0) (sym is-line) (speed-code b exact ∙ rw (operand, ranged n (w .least) (w .most)))
+  taken = subst (λ (k : Body). bodyFault k b .code ≡ 0) (sym line) (speed-code b exact ∙ rw (limited, ranged n (w .least) (w .most)))
 
   pub line-obeyed : bodyObeyed b c ≡ silent (withEndless n c)
   unfolding bodyObeyed
-  line-obeyed = rw (is-line, w .runs, w .endless, exact, taken, operand)
+  line-obeyed = rw (line, w .runs, w .endless, exact, taken, operand)
+
+-- in no other state
+pub busy : (c : Core) (zeros n : ℕ) → c .running ≡ true → ((up : Bool) (left : ℕ) → c .motor .wait ≡ Wait.Move up true left → ⊥)
+    → length (speedBody zeros n) ≤ mostBytes → bodyObeyed (speedBody zeros n) c ≡ refused 15 c
+unfolding bodyObeyed
+busy c zeros n run never short = go (isEndless (c .motor .wait)) refl
+  where
+    go : (e : Bool) → isEndless (c .motor .wait) ≡ e → bodyObeyed (speedBody zeros n) c ≡ refused 15 c
+    go true e = let w = endless-wait (c .motor .wait) e in absurd (never (w .0) (w .1) (w .2))
+    go false e = rw (is-line zeros n short, run, e)
 
 -- ---- a feed call
 

@@ -14,6 +14,7 @@ use Rattle.commands.specs.declared.Read.the-variants.{At, Bad, End}
 use Rattle.commands.specs.Table.{top, table, find, commandOf}
 use Rattle.commands.specs.Reading.{readAt}
 use Rattle.commands.proofs.TableLaws.{exponent-complete}
+use Rattle.image.proofs.HeldLaws.{no-text}
 use Rattle.image.specs.Image.{slotGood, slotText}
 use Rattle.flow.specs.declared.Flow.{Flow}
 use Rattle.flow.specs.declared.Flowed.{Flowed}
@@ -41,7 +42,7 @@ use Rattle.obeying.specs.Obeying.{textWritten}
 use Rattle.obeying.specs.Deeds.{Obeys, refuses, tells, stores, clears, stops, resumes, speeds, again, loads}
 use Rattle.drive.specs.declared.StartAnswer.{StartAnswer}
 use Rattle.drive.specs.Unit.{Drive, drive}
-use Rattle.drive.specs.Calls.{freshUnit, startOf, mostSample, receivedBy, bodyBy, Turning, turnTaken, turnOf}
+use Rattle.drive.specs.Calls.{begunOn, freshUnit, startOf, mostSample, receivedBy, bodyBy, Turning, turnTaken, turnOf}
 use Rattle.drive.proofs.StartLaws.{started-unit}
 use Rattle.drive.proofs.FeedLaws.{frame-does}
 use Rattle.keeping.proofs.TurnLaws.{free}
@@ -51,7 +52,7 @@ use Rattle.runs.proofs.CallLaws.{feed-cases, turn-cases, turn-made}
 use Rattle.runs.proofs.CommandLaws.{turned}
 use Rattle.effects.specs.Bodies.{homing}
 use Rattle.effects.specs.Turns as effects
-use Rattle.effects.specs.Turns.{Defaults, SameRun, Letter, Keeps, Idles, Flowing, listed, Plainly, SetsOne, then, Takes, here, atFlag, Leads, Sets, ATurn, aTurn, EachCommand, EachWait, Resting, Answers}
+use Rattle.effects.specs.Turns.{Defaults, HeldAtStart, SameRun, Letter, Keeps, Idles, Flowing, listed, Plainly, SetsOne, then, Takes, here, atFlag, Leads, Sets, ATurn, aTurn, EachCommand, EachWait, Resting, Answers}
 
 -- ---- a fresh start
 
@@ -69,7 +70,6 @@ fresh-core u = record {
   free = refl;
   no-action = refl;
   not-loaded = refl;
-  code = refl;
   first = refl;
   none-open = refl;
   endless = refl;
@@ -85,17 +85,48 @@ started-core n u = record {
   free = refl;
   no-action = refl;
   not-loaded = refl;
-  code = refl;
   first = refl;
   none-open = refl;
   endless = refl;
 }
 
+-- stopped before it began
+held-core : Fresh (ended 1 freshCore)
+unfolding ended stopped freshCore begun fresh defaults
+held-core u = record {
+  settings = refl;
+  sample = refl;
+  position = refl;
+  known = refl;
+  free = refl;
+  no-action = refl;
+  not-loaded = refl;
+  first = refl;
+  none-open = refl;
+  endless = refl;
+}
+
+on-core : (good : Bool) (n : ℕ) → Fresh (begunOn good n)
+on-core true n = cases Fresh (ltb 0 n) (λ q. started-core n) (λ q. fresh-core)
+on-core false n = held-core
+
 pub start-defaults : (number : ℕ) (image body text : List ℕ) → startOf number image body text .answer ≡ StartAnswer.Started → Defaults (startOf number image body text .unit)
 unfolding freshUnit
 start-defaults number image body text e =
-    let n : ℕ = length (slotText image 0) in
-    subst Defaults (sym (started-unit number image body text e)) (cases Fresh (ltb 0 n) (λ q. started-core n) (λ q. fresh-core) (freshUnit number image body))
+    subst Defaults (sym (started-unit number image body text e)) (on-core (slotGood image 0) (length (slotText image 0)) (freshUnit number image body))
+
+pub starts-good : (number : ℕ) (image body text : List ℕ) → startOf number image body text .answer ≡ StartAnswer.Started → slotGood image 0 ≡ true
+    → startOf number image body text .unit .core .code ≡ 0
+unfolding freshUnit started freshCore
+starts-good number image body text e g =
+    ap (λ (u : Drive). u .core .code) (started-unit number image body text e)
+    ∙ rw g (cases (λ (c : Core). c .code ≡ 0) (ltb 0 (length (slotText image 0))) (λ q. refl) (λ q. refl))
+
+pub starts-held : (number : ℕ) (image body text : List ℕ) → startOf number image body text .answer ≡ StartAnswer.Started → slotGood image 0 ≡ false
+    → HeldAtStart (startOf number image body text .unit)
+unfolding freshUnit ended freshCore begun
+starts-held number image body text e g =
+    subst HeldAtStart (sym (started-unit number image body text e)) (rw (g, no-text image 0 g) (record { idle = refl; empty = refl; holding = refl }))
 
 -- ---- calls that leave the run where it is
 

@@ -4,6 +4,7 @@ use Prim.Native.Nat.{ℕ}
 use mathlib.Core.Path.{_≡_}
 use mathlib.Core.List.{List}
 use mathlib.Core.Bool.{true, false}
+use Rattle.image.specs.Image.{slotGood}
 use Rattle.motor.specs.declared.Wait.{Wait}
 use Rattle.turns.specs.declared.Core.{Core}
 use Rattle.drive.specs.Unit.{Drive}
@@ -13,11 +14,16 @@ use Rattle.runs.specs.Reach.{Feed, Turn, after}
 use Rattle.runs.specs.Causes.{Made}
 use Rattle.effects.specs.Bodies.{EachBody}
 use Rattle.effects.specs.Speed.{SpeedClaims}
-use Rattle.effects.specs.Turns.{Defaults, SameRun, Idles, aTurn, here, EachCommand, EachWait, Answers}
+use Rattle.effects.specs.Turns.{Defaults, HeldAtStart, SameRun, Idles, aTurn, here, EachCommand, EachWait, Answers}
 
 pub record EffectClaims : Type 0 where
   pub defaults : (number : ℕ) (image body text : List ℕ) → startOf number image body text .answer ≡ StartAnswer.Started
       → Defaults (startOf number image body text .unit)
+  -- 02, E9: and the held code is 0, but where program 0 counts as bad: "idle, the current text empty, holding 1"
+  pub starts-good : (number : ℕ) (image body text : List ℕ) → startOf number image body text .answer ≡ StartAnswer.Started → slotGood image 0 ≡ true
+      → startOf number image body text .unit .core .code ≡ 0
+  pub starts-held : (number : ℕ) (image body text : List ℕ) → startOf number image body text .answer ≡ StartAnswer.Started → slotGood image 0 ≡ false
+      → HeldAtStart (startOf number image body text .unit)
   pub bodies : (c : Core) (text image : List ℕ) → EachBody c text image
   -- "They are obeyed while running": no feed call moves a run
   pub feeds : (u : Drive) (bytes image buffer : List ℕ) → u .core .running ≡ true → SameRun u (after (Feed bytes image buffer) u)

@@ -1,6 +1,6 @@
 -- The endless speed: what sets it, that nothing else does, what a line that sets it leaves, and that `?5` tells it. 02, E3.
 -- Assumes nothing.
-use Prim.Native.Nat.{ℕ, _≤_}
+use Prim.Native.Nat.{ℕ, _+_, _≤_}
 use mathlib.Core.Path.{_≡_}
 use mathlib.Core.List.{List, [], _∷_, _++_}
 use mathlib.Core.Bool.{Bool, true}
@@ -8,6 +8,7 @@ use lib.ListN.{length}
 use Rattle.digits.specs.Decimal.{decimal}
 use Rattle.digits.specs.ReadBack.{spelling}
 use Rattle.lines.specs.Examples.{bytes}
+use Rattle.digits.specs.Operand.{operandMost}
 use Rattle.lines.specs.Texts.{mostBytes}
 use Rattle.image.specs.Image.{rightLength}
 use Rattle.answers.specs.Packet.{packetBytes}
@@ -18,6 +19,7 @@ use Rattle.drive.specs.Unit.{Drive}
 use Rattle.drive.specs.Calls.{receivedBy, bodyBy}
 use Rattle.runs.specs.Reach.{Call, Feed, Turn, after}
 use Rattle.runs.specs.Causes.{Made}
+use Rattle.obeying.specs.Obeying.{refused, bodyObeyed}
 use Rattle.effects.specs.Bodies.{dataBy, Turns-to}
 use Rattle.effects.specs.Turns.{Takes, aTurn}
 
@@ -33,7 +35,7 @@ pub record OnTheWay (c : Core) (zeros n : ℕ) : Type 0 where
   pub endless : c .motor .wait ≡ Wait.Move up true left
   pub least : 1 ≤ n
   pub most : n ≤ 16777216
-  pub short : length (speedBody zeros n) ≤ mostBytes
+  pub few : zeros + length (decimal n) ≤ operandMost
 
 -- "It sets only the endless speed": what is waited for, the last action, the settings and the place in the text are as they were
 pub record Sped (n : ℕ) (c d : Core) : Type 0 where
@@ -77,5 +79,8 @@ pub record SpeedClaims : Type 0 where
   pub stays : (u : Drive) (c : Call) → ((n : ℕ) → SetBy u c n → ⊥) → after c u .core .endless ≡ u .core .endless
   -- "It sets only the endless speed"; "The current text stays as it was"; nor does the image change
   pub only : (c : Core) (text image : List ℕ) (zeros n : ℕ) → OnTheWay c zeros n → Turns-to (Sped n) (speedBody zeros n) c text image
+  -- "at all other times 15 stands": in no other state is such a line obeyed while running, whatever its number
+  pub busy : (c : Core) (zeros n : ℕ) → c .running ≡ true → ((up : Bool) (left : ℕ) → c .motor .wait ≡ Wait.Move up true left → ⊥)
+      → length (speedBody zeros n) ≤ mostBytes → bodyObeyed (speedBody zeros n) c ≡ refused 15 c
   -- "the new immediate `?5` returns" it: what was set last, from `V` or on the way
   pub told : {u v : Drive} (c : Call) (n : ℕ) → SetBy u c n → Unset (after c u) v → (text : List ℕ) → dataBy (bytes "?5") (v .core) text ≡ decimal n

@@ -64,11 +64,16 @@ pub record Defaults (u : Drive) : Type 0 where
   pub free : u .core .motor .wait ≡ Wait.Nothing
   pub no-action : u .core .motor .last .number ≡ 0
   pub not-loaded : u .core .loaded ≡ false
-  pub code : u .core .code ≡ 0
   pub first : u .core .flow .at ≡ 0
   pub none-open : u .core .flow .depth ≡ 0
   -- 02, E3: "0 before the first endless move"
   pub endless : u .core .endless ≡ 0
+
+-- 02, E9: "idle, the current text empty, holding 1"
+pub record HeldAtStart (u : Drive) : Type 0 where
+  pub idle : u .core .running ≡ false
+  pub empty : textOf u ≡ []
+  pub holding : u .core .code ≡ 1
 
 -- ---- one turn: u becomes v, with this sample
 

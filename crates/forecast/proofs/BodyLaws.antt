@@ -11,10 +11,10 @@ use Rattle.parts.specs.Parts.{part, same}
 use Rattle.parts.proofs.Laws.{cases}
 use Rattle.commands.specs.declared.Fault.{Fault}
 use Rattle.commands.specs.Table.{oneOf}
-use Rattle.commands.specs.Reading.{fault, readAt}
+use Rattle.commands.specs.Reading.{fault, readBy}
 use Rattle.lines.specs.declared.Body.{Body}
 use Rattle.lines.specs.declared.Taken.{Taken}
-use Rattle.lines.specs.Texts.{readingIn, readingFrom, unplaced, faultPlaces, lineJudged, mostBytes}
+use Rattle.lines.specs.Texts.{readingIn, readingBy, unplaced, faultPlaces, lineJudged, mostBytes}
 use Rattle.lines.specs.Bodies.{Row, immediates, immediateIn, beginsImmediate, otherOf, bodyOf, lineOf, takenFault, bodyFault, bodyCode, lineFault}
 use Rattle.lines.specs.Loops.{Checked}
 use Rattle.lines.proofs.CodeLaws.{Code, two, TakenCode, taken-code}
@@ -65,7 +65,7 @@ body-refused b f e = told-fault b f (subst BodyTwo e (body-two b)) (rw e)
 -- ---- nothing to count
 
 none : Counted.Commands 0 ≡ countText []
-unfolding countText anyBarred readingIn readingFrom readAt unplaced tailOf courseOf cost courseIn commandsIn
+unfolding countText anyBarred readingIn readingBy readBy unplaced tailOf courseOf cost courseIn commandsIn
 none = refl
 
 none-at : (f : Fault) (t : List ℕ) → f .code ≡ 0 → t ≡ [] → Counted.Commands 0 ≡ unlessRefused f (countText t)
@@ -113,7 +113,7 @@ body-line b e =
 -- ---- the text of a body passed the check, whatever the body is
 
 empty-checked : Checked []
-unfolding lineJudged readingIn readingFrom readAt faultPlaces
+unfolding lineJudged readingIn readingBy readBy faultPlaces
 empty-checked = refl
 
 pub text-of-checked : (b : List ℕ) → Checked (bodyText b)

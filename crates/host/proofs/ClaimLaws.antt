@@ -19,7 +19,7 @@ use Rattle.commands.specs.declared.Spelling.{Spelling}
 use Rattle.commands.specs.declared.Spelling.the-variants.{Alone, WithNumber, WithTwoDigits}
 use Rattle.commands.specs.Table.{oneOf}
 use Rattle.commands.specs.Writing.{twoDigits, bytesOf, spelled, spellingOf, zeroed}
-use Rattle.commands.proofs.WritingLaws.{spells-itself, spelling-some}
+use Rattle.commands.proofs.WritingLaws.{letter-written, spelling-some}
 use Rattle.lines.specs.declared.Slot.{Slot}
 use Rattle.lines.specs.declared.Slot.the-variants.{NoSlot, Into}
 use Rattle.lines.specs.Texts.{mostBytes, structured}
@@ -144,7 +144,7 @@ commands-bytes : (cs : List Command) → length cs ≤ length (commandsText cs)
 unfolding commandsText
 commands-bytes [] = omega arith
 commands-bytes (c ∷ cs) =
-    omega (arith, commands-bytes cs, spelling-some c (spelled c) (spells-itself c), length-append (spelled c) (commandsText cs))
+    omega (arith, commands-bytes cs, spelling-some (spelled c) (letter-written c), length-append (spelled c) (commandsText cs))
 
 pub too-many : (l : HostList) → mostBytes < length (l .listed) → listCode l ≡ 2
 unfolding writtenOf

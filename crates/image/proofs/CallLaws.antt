@@ -1,38 +1,76 @@
 -- Laws of the public calls: how each promise is met, and that no second answer meets it. Assumes nothing.
 use Prim.Native.Nat.{ℕ, _≤_, _<_}
-use mathlib.Core.Path.{_≡_, sym, _∙_}
+use mathlib.Core.Path.{_≡_, refl, sym, _∙_}
 use mathlib.Core.List.{List}
-use mathlib.Core.Bool.{Bool, true, false}
+use mathlib.Core.Bool.{Bool, true, false, _&&_}
 use native.Mathlib.Omega.{arith}
-use lib.Dec.{ltb, leb}
-use lib.ListN.{length}
+use lib.Dec.{ltb, leb, eqb}
+use lib.ListN.{length, drop}
 use borrow.Author.Tests.{eq-eqb, ne-eqb, lt-ltb, le-leb, eqb-true, ltb-true, leb-true}
 use Rattle.parts.proofs.Laws.{cases}
-use Rattle.image.specs.Image.{imageBytes, rightLength, slots, bodyBytes, slotsGood, withText, emptyImage}
+use Rattle.digits.specs.Operand.{operandMost, fewDigits}
+use Rattle.lines.specs.Texts.{mostBytes, olderGood}
+use Rattle.lines.proofs.FewLaws.{good-now}
+use Rattle.image.specs.Image.{imageBytes, rightLength, slots, bodyBytes, startIn, lengthIn, startOf, entryOf, bodyOf, zeros, goodAt, hasSlot, slotBy, slotGood, slotsBy, withText, emptyImage}
 use Rattle.image.specs.declared.Checked.{Checked}
 use Rattle.image.specs.declared.Stored.{Stored}
-use Rattle.image.specs.Calls.{checkedOf, storedOf, leftBy, afterStore, StoredIs, afterClear, ClearedIs}
-use Rattle.image.specs.Claims.{EverySlotGood}
-use Rattle.image.proofs.SlotLaws.{slots-each, slots-all}
+use Rattle.image.specs.Calls.{checkedBy, checkedOf, olderOf, storedOf, leftBy, afterStore, StoredIs, afterClear, ClearedIs}
+use Rattle.image.specs.Claims.{EverySlotGood, textIn, slotOlder, EverySlotOlder}
+use Rattle.image.proofs.SlotLaws.{and-left, slots-each, slots-all}
 
 -- ---- the image checked
 
-pub good-means : (image : List ℕ) → checkedOf image ≡ Checked.Good → (length image ≡ imageBytes) × EverySlotGood image
-unfolding checkedOf
-good-means image =
+means-by : (most : ℕ) (image : List ℕ) → checkedBy most image ≡ Checked.Good
+    → (length image ≡ imageBytes) × ((k : ℕ) → k < slots → slotBy most image k ≡ true)
+unfolding checkedBy
+means-by most image =
     cases
-    (λ (r : Checked). r ≡ Checked.Good → (length image ≡ imageBytes) × EverySlotGood image)
+    (λ (r : Checked). r ≡ Checked.Good → (length image ≡ imageBytes) × ((k : ℕ) → k < slots → slotBy most image k ≡ true))
     (rightLength image)
     (λ long. cases
-    (λ (r : Checked). r ≡ Checked.Good → (length image ≡ imageBytes) × EverySlotGood image)
-    (slotsGood image slots)
-    (λ all q. (eqb-true (length image) imageBytes long, λ k l. slots-each image k slots l all))
+    (λ (r : Checked). r ≡ Checked.Good → (length image ≡ imageBytes) × ((k : ℕ) → k < slots → slotBy most image k ≡ true))
+    (slotsBy most image slots)
+    (λ all q. (eqb-true (length image) imageBytes long, λ k l. slots-each most image k slots l all))
     (λ some q. let z : _≡_ {A = ℕ} 0 1 = cc in absurd (omega arith)))
     (λ short q. let z : _≡_ {A = ℕ} 0 1 = cc in absurd (omega arith))
 
+when-by : (most : ℕ) (image : List ℕ) → length image ≡ imageBytes → ((k : ℕ) → k < slots → slotBy most image k ≡ true) → checkedBy most image ≡ Checked.Good
+unfolding checkedBy
+when-by most image long each = rw (eq-eqb (length image) imageBytes long, slots-all most image slots each)
+
+pub good-means : (image : List ℕ) → checkedOf image ≡ Checked.Good → (length image ≡ imageBytes) × EverySlotGood image
+good-means image e = means-by operandMost image e
+
 pub good-when : (image : List ℕ) → length image ≡ imageBytes → EverySlotGood image → checkedOf image ≡ Checked.Good
-unfolding checkedOf
-good-when image long each = rw (eq-eqb (length image) imageBytes long, slots-all image slots each)
+good-when image long each = when-by operandMost image long each
+
+pub older-means : (image : List ℕ) → olderOf image ≡ Checked.Good → (length image ≡ imageBytes) × EverySlotOlder image
+older-means image e = means-by mostBytes image e
+
+-- ---- programs stored earlier
+
+-- the test of digits may stand last
+tested-last : (h a b o f z : Bool) → (h && (a && b && (o && f) && z)) ≡ ((h && (a && b && o && z)) && f)
+tested-last false a b o f z = refl
+tested-last true false b o f z = refl
+tested-last true true false o f z = refl
+tested-last true true true false f z = refl
+tested-last true true true true true true = refl
+tested-last true true true true true false = refl
+tested-last true true true true false true = refl
+tested-last true true true true false false = refl
+
+pub slot-now : (image : List ℕ) (k : ℕ) → slotGood image k ≡ slotOlder image k && fewDigits operandMost (textIn image k)
+unfolding slotBy goodAt
+slot-now image k =
+    rw (good-now (textIn image k))
+    (tested-last (hasSlot image k) (eqb (startIn (entryOf image k)) (startOf k)) (leb (lengthIn (entryOf image k)) bodyBytes) (olderGood (textIn image k))
+    (fewDigits operandMost (textIn image k)) (zeros (drop (lengthIn (entryOf image k)) (bodyOf image k))))
+
+pub good-before : (image : List ℕ) → checkedOf image ≡ Checked.Good → olderOf image ≡ Checked.Good
+good-before image e =
+    let k = good-means image e in
+    when-by mostBytes image (k .0) (λ j l. and-left (slotOlder image j) (fewDigits operandMost (textIn image j)) (sym (slot-now image j) ∙ k .1 j l))
 
 -- ---- a store
 

@@ -12,6 +12,7 @@ use lib.Seq.{take-at, drop-at, drop-drop}
 use borrow.Author.Tests.{eqb-true}
 use Rattle.parts.specs.Parts.{part, padded}
 use Rattle.parts.proofs.Laws.{cases, length-padded}
+use Rattle.digits.specs.Operand.{operandMost}
 use Rattle.image.specs.Image.{imageBytes, rightLength, slots, entryBytes, entryOf, bodyBytes, startOf, word, bodyOf, slotText, entryFor, emptyEntries, emptyImage}
 use Rattle.image.specs.declared.Checked.{Checked}
 use Rattle.image.specs.Calls.{checkedOf, afterClear}
@@ -78,7 +79,7 @@ text-empty k = go (decLt k slots)
   where
     go : Dec (k < slots) → slotText emptyImage k ≡ []
     go (yes l) = holds-empty k l .text empty-good
-    go (no m) = no-text emptyImage k (sym (no-slot emptyImage k (omega arith)))
+    go (no m) = no-text emptyImage k (sym (no-slot operandMost emptyImage k (omega arith)))
 
 -- ---- of every image of the right length
 

@@ -10,8 +10,9 @@ use lib.Seq.{drop-at}
 use borrow.Author.Tests.{leb-true}
 use Rattle.parts.specs.Parts.{padded}
 use Rattle.parts.proofs.Laws.{cases, take-padded}
-use Rattle.commands.specs.Reading.{readAt}
-use Rattle.lines.specs.Texts.{readingIn, readingFrom, faultPlaces, fifteenth, storedPlaces, storedJudged, passed, mostBytes, textGood}
+use Rattle.digits.specs.Operand.{operandMost}
+use Rattle.commands.specs.Reading.{readBy}
+use Rattle.lines.specs.Texts.{readingIn, readingBy, faultPlaces, fifteenth, storedPlaces, storedBy, storedJudged, passed, mostBytes, textGoodBy, textGood}
 use Rattle.image.specs.Image.{imageBytes, slots, entryOf, bodyBytes, startIn, lengthIn, startOf, word, wordAt, bodyOf, zeros, slotGood, slotText, entryFor}
 use Rattle.image.specs.Claims.{Holds}
 use Rattle.image.proofs.SlotLaws.{and-left, good-rest, slot-judged, sound}
@@ -19,12 +20,12 @@ use Rattle.image.proofs.SlotLaws.{and-left, good-rest, slot-judged, sou
 -- ---- texts
 
 pub empty-good : textGood [] ≡ true
-unfolding textGood storedJudged readingFrom readingIn readAt faultPlaces fifteenth storedPlaces
+unfolding textGoodBy storedBy readingBy readingIn readBy faultPlaces fifteenth storedPlaces
 empty-good = refl
 
 -- a text that passes fits a body
 pub good-fits : (text : List ℕ) → textGood text ≡ true → length text ≤ bodyBytes
-unfolding textGood
+unfolding textGoodBy
 good-fits text h = leb-true (length text) mostBytes (and-left (leb (length text) mostBytes) (passed (storedJudged true text)) h)
 
 -- what is read from a slot passes, and fits
@@ -77,7 +78,7 @@ pub holds : (image : List ℕ) (k : ℕ) (text : List ℕ) → length image ≡ 
 unfolding slotText
 holds image k text long slot fits e b =
     let n = length-read (startOf k) (length text) in
-    let rest = good-rest (startOf k) (entryFor (startOf k) (length text)) (padded bodyBytes text) (start-read (startOf k) (length text)) (omega arith) in
+    let rest = good-rest operandMost (startOf k) (entryFor (startOf k) (length text)) (padded bodyBytes text) (start-read (startOf k) (length text)) (omega arith) in
     let good : slotGood image k ≡ textGood text =
-    rw (slot-judged image k long slot, e, b, rest, n, take-padded bodyBytes text, unused-zero bodyBytes text) (and-true (textGood text)) in
+    rw (slot-judged operandMost image k long slot, e, b, rest, n, take-padded bodyBytes text, unused-zero bodyBytes text) (and-true (textGood text)) in
     record { entry = e; body = b; good = good; text = λ t. rw (good ∙ t, e, b, n) (take-padded bodyBytes text) }

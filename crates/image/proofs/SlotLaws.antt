@@ -12,8 +12,9 @@ use lib.ListN.{length, getD, take, drop, length-take, length-drop, drop-of-lengt
 use lib.Seq.{drop-cons}
 use borrow.Author.Tests.{eq-eqb, ne-eqb, le-leb, lt-leb, lt-ltb, le-ltb, leb-true, eqb-true, ltb-true}
 use Rattle.parts.specs.Parts.{part}
-use Rattle.lines.specs.Texts.{textGood}
-use Rattle.image.specs.Image.{imageBytes, slots, entryBytes, bodyBytes, startIn, lengthIn, startOf, entryOf, bodyOf, zeros, goodAt, rightLength, hasSlot, slotGood, slotsGood}
+use Rattle.digits.specs.Operand.{operandMost}
+use Rattle.lines.specs.Texts.{textGoodBy, textGood}
+use Rattle.image.specs.Image.{imageBytes, slots, entryBytes, bodyBytes, startIn, lengthIn, startOf, entryOf, bodyOf, zeros, goodAt, rightLength, hasSlot, slotBy, slotGood, slotsBy}
 
 pub and-left : (a b : Bool) → a && b ≡ true → a ≡ true
 and-left true b h = refl
@@ -53,34 +54,34 @@ module _ (s : List ℕ) (i : ℕ) (clean : Bool) (e : zeros s ≡ clean && zeros
 
 -- ---- an entry and a body
 
-module _ (start : ℕ) (entry body : List ℕ) where
-  pub bad-start : (startIn entry ≡ start → ⊥) → false ≡ goodAt start entry body
+module _ (most start : ℕ) (entry body : List ℕ) where
+  pub bad-start : (startIn entry ≡ start → ⊥) → false ≡ goodAt most start entry body
   unfolding goodAt
   bad-start h = rw (ne-eqb (startIn entry) start h)
 
-  pub bad-length : bodyBytes < lengthIn entry → startIn entry ≡ start → false ≡ goodAt start entry body
+  pub bad-length : bodyBytes < lengthIn entry → startIn entry ≡ start → false ≡ goodAt most start entry body
   unfolding goodAt
   bad-length h e = rw (eq-eqb (startIn entry) start e, lt-leb (lengthIn entry) bodyBytes h)
 
   -- with start and length right, what is left are the text and the unused bytes
   pub good-rest : startIn entry ≡ start → lengthIn entry ≤ bodyBytes
-      → goodAt start entry body ≡ textGood (take (lengthIn entry) body) && zeros (drop (lengthIn entry) body)
+      → goodAt most start entry body ≡ textGoodBy most (take (lengthIn entry) body) && zeros (drop (lengthIn entry) body)
   unfolding goodAt
   good-rest e h = rw (eq-eqb (startIn entry) start e, le-leb (lengthIn entry) bodyBytes h)
 
 -- ---- a slot of an image
 
-module _ (image : List ℕ) (k : ℕ) where
-  pub wrong-length : (length image ≡ imageBytes → ⊥) → false ≡ slotGood image k
-  unfolding slotGood
+module _ (most : ℕ) (image : List ℕ) (k : ℕ) where
+  pub wrong-length : (length image ≡ imageBytes → ⊥) → false ≡ slotBy most image k
+  unfolding slotBy
   wrong-length h = rw (ne-eqb (length image) imageBytes h)
 
-  pub no-slot : slots ≤ k → false ≡ slotGood image k
-  unfolding slotGood
+  pub no-slot : slots ≤ k → false ≡ slotBy most image k
+  unfolding slotBy
   no-slot h = rw (le-ltb k slots h, and-false (rightLength image))
 
-  pub slot-judged : length image ≡ imageBytes → k < slots → slotGood image k ≡ goodAt (startOf k) (entryOf image k) (bodyOf image k)
-  unfolding slotGood
+  pub slot-judged : length image ≡ imageBytes → k < slots → slotBy most image k ≡ goodAt most (startOf k) (entryOf image k) (bodyOf image k)
+  unfolding slotBy
   slot-judged h l = rw (eq-eqb (length image) imageBytes h, lt-ltb k slots l)
 
 -- what a good slot has
@@ -99,18 +100,18 @@ all-four a b c d h =
     (and-left a b two, and-right a b two, and-right (a && b) c three, and-right (a && b && c) d h)
 
 pub sound : (image : List ℕ) (k : ℕ) → slotGood image k ≡ true → Sound image k
-unfolding slotGood goodAt
+unfolding slotBy goodAt
 sound image k h =
     let entry = entryOf image k in
     let body = bodyOf image k in
     let n = lengthIn entry in
-    let has = and-left (hasSlot image k) (goodAt (startOf k) entry body) h in
+    let has = and-left (hasSlot image k) (goodAt operandMost (startOf k) entry body) h in
     let good = all-four
     (eqb (startIn entry) (startOf k))
     (leb n bodyBytes)
     (textGood (take n body))
     (zeros (drop n body))
-    (and-right (hasSlot image k) (goodAt (startOf k) entry body) h) in
+    (and-right (hasSlot image k) (goodAt operandMost (startOf k) entry body) h) in
     record {
       long = eqb-true _ _ (and-left (rightLength image) (ltb k slots) has);
       slot = ltb-true k slots (and-right (rightLength image) (ltb k slots) has);
@@ -123,26 +124,26 @@ sound image k h =
 -- ---- every slot
 
 -- one bad slot is enough
-pub slots-bad : (image : List ℕ) (k n : ℕ) → k < n → slotGood image k ≡ false → slotsGood image n ≡ false
-unfolding slotsGood
-slots-bad image k zero h e = absurd (not-suc-le-zero h)
-slots-bad image k (suc n) h e =
+pub slots-bad : (most : ℕ) (image : List ℕ) (k n : ℕ) → k < n → slotBy most image k ≡ false → slotsBy most image n ≡ false
+unfolding slotsBy
+slots-bad most image k zero h e = absurd (not-suc-le-zero h)
+slots-bad most image k (suc n) h e =
     ⊎-elim
-    (λ q. let f : slotGood image n ≡ false = cc in rw (f, and-false))
-    (λ l. rw (slots-bad image k n l e))
+    (λ q. let f : slotBy most image n ≡ false = cc in rw (f, and-false))
+    (λ l. rw (slots-bad most image k n l e))
     (eq-or-lt-of-le (le-of-suc-le-suc h))
 
 -- all are good exactly when each is
-pub slots-each : (image : List ℕ) (k n : ℕ) → k < n → slotsGood image n ≡ true → slotGood image k ≡ true
-unfolding slotsGood
-slots-each image k zero h e = absurd (not-suc-le-zero h)
-slots-each image k (suc n) h e =
+pub slots-each : (most : ℕ) (image : List ℕ) (k n : ℕ) → k < n → slotsBy most image n ≡ true → slotBy most image k ≡ true
+unfolding slotsBy
+slots-each most image k zero h e = absurd (not-suc-le-zero h)
+slots-each most image k (suc n) h e =
     ⊎-elim
-    (λ q. let f : slotGood image n ≡ true = and-right (slotsGood image n) (slotGood image n) e in cc)
-    (λ l. slots-each image k n l (and-left (slotsGood image n) (slotGood image n) e))
+    (λ q. let f : slotBy most image n ≡ true = and-right (slotsBy most image n) (slotBy most image n) e in cc)
+    (λ l. slots-each most image k n l (and-left (slotsBy most image n) (slotBy most image n) e))
     (eq-or-lt-of-le (le-of-suc-le-suc h))
 
-pub slots-all : (image : List ℕ) (n : ℕ) → ((k : ℕ) → k < n → slotGood image k ≡ true) → slotsGood image n ≡ true
-unfolding slotsGood
-slots-all image zero each = refl
-slots-all image (suc n) each = rw (slots-all image n (λ k l. each k (omega arith)), each n (omega arith))
+pub slots-all : (most : ℕ) (image : List ℕ) (n : ℕ) → ((k : ℕ) → k < n → slotBy most image k ≡ true) → slotsBy most image n ≡ true
+unfolding slotsBy
+slots-all most image zero each = refl
+slots-all most image (suc n) each = rw (slots-all most image n (λ k l. each k (omega arith)), each n (omega arith))

@@ -11,7 +11,7 @@ use borrow.Author.Tests.{eq-eqb, eqb-true}
 use Rattle.parts.specs.Parts.{part, put, padded}
 use Rattle.parts.proofs.Laws.{length-put, part-put, part-put-below, part-put-above, length-padded}
 use Rattle.lines.specs.Texts.{textGood}
-use Rattle.image.specs.Image.{imageBytes, rightLength, slots, entryBytes, entryOf, bodyBytes, startOf, word, bodyOf, slotGood, slotText, entryFor, withEntry, withBody, withText}
+use Rattle.image.specs.Image.{imageBytes, rightLength, slots, entryBytes, entryOf, bodyBytes, startOf, word, bodyOf, slotBy, slotGood, slotText, entryFor, withEntry, withBody, withText}
 use Rattle.image.specs.declared.Checked.{Checked}
 use Rattle.image.specs.declared.Stored.{Stored}
 use Rattle.image.specs.Calls.{checkedOf, storedOf, afterStore}
@@ -74,7 +74,7 @@ module _ (image : List ℕ) (k : ℕ) (text : List ℕ) (long : length image ≡
         ∙ part-apart image _ _ _ _ (omega arith) (inr (omega (arith, length-entry-for (startOf k) (length text))))
 
     good-kept : slotGood (withText image k text) j ≡ slotGood image j
-    unfolding slotGood
+    unfolding slotBy
     good-kept = rw (length-with, long, entry-kept, body-kept)
 
     pub kept-with : Kept j image (withText image k text)

@@ -5,13 +5,22 @@ use mathlib.Core.List.{List}
 use mathlib.Core.Bool.{Bool, cond}
 use lib.ListN.{length}
 use lib.Dec.{ltb, leb}
-use Rattle.image.specs.Image.{rightLength, slots, bodyBytes, slotsGood, withText, emptyImage}
+use Rattle.digits.specs.Operand.{operandMost}
+use Rattle.lines.specs.Texts.{mostBytes}
+use Rattle.image.specs.Image.{rightLength, slots, bodyBytes, slotsBy, withText, emptyImage}
 use Rattle.image.specs.declared.Checked.{Checked}
 use Rattle.image.specs.declared.Stored.{Stored}
 
--- "image not 4,160 bytes, then bad image"
-unfoldable pub checkedOf : List ℕ → Checked
-checkedOf image = cond (rightLength image) (cond (slotsGood image slots) Checked.Good Checked.Bad) Checked.WrongLength
+-- "image not 4,160 bytes, then bad image", with operands of so many digits at most
+unfoldable pub checkedBy : ℕ → List ℕ → Checked
+checkedBy most image = cond (rightLength image) (cond (slotsBy most image slots) Checked.Good Checked.Bad) Checked.WrongLength
+
+abbrev pub checkedOf : List ℕ → Checked
+checkedOf image = checkedBy operandMost image
+
+-- 02, E9: the same for start alone, of programs stored earlier
+abbrev pub olderOf : List ℕ → Checked
+olderOf image = checkedBy mostBytes image
 
 -- the number of each answer, for the firmware
 abbrev pub checkedNumber : Checked → ℕ

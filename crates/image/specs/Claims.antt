@@ -3,15 +3,16 @@
 use Prim.Native.Nat.{ℕ, _*_, _≤_, _<_}
 use mathlib.Core.Path.{_≡_}
 use mathlib.Core.List.{List, []}
-use mathlib.Core.Bool.{true}
-use lib.ListN.{length, getD}
+use mathlib.Core.Bool.{Bool, true, _&&_}
+use lib.ListN.{length, getD, take}
 use Rattle.parts.specs.Parts.{padded}
-use Rattle.lines.specs.Texts.{textGood}
-use Rattle.image.specs.Image.{imageBytes, rightLength, slots, entryBytes, bodyBytes, contentsBytes, byteValues, startOf}
-use Rattle.image.specs.Image.{entryOf, bodyOf, slotGood, slotText, entryFor}
+use Rattle.digits.specs.Operand.{operandMost, fewDigits}
+use Rattle.lines.specs.Texts.{mostBytes, textGood}
+use Rattle.image.specs.Image.{imageBytes, rightLength, slots, entryBytes, bodyBytes, contentsBytes, byteValues, lengthIn, startOf}
+use Rattle.image.specs.Image.{entryOf, bodyOf, slotBy, slotGood, slotText, entryFor}
 use Rattle.image.specs.declared.Checked.{Checked}
 use Rattle.image.specs.declared.Stored.{Stored}
-use Rattle.image.specs.Calls.{checkedOf, storedOf, afterStore, afterClear}
+use Rattle.image.specs.Calls.{checkedOf, olderOf, storedOf, afterStore, afterClear}
 
 -- slot k is as it was
 pub record Kept (k : ℕ) (before after : List ℕ) : Type 0 where
@@ -29,6 +30,16 @@ pub record Holds (image : List ℕ) (k : ℕ) (held : List ℕ) : Type 0 where
 
 abbrev pub EverySlotGood : List ℕ → Type 0
 EverySlotGood image = (k : ℕ) → k < slots → slotGood image k ≡ true
+
+-- the bytes that slot k's entry says are its text, good or not; whether it is good but for operands of more than ten digits
+abbrev pub textIn : List ℕ → ℕ → List ℕ
+textIn image k = take (lengthIn (entryOf image k)) (bodyOf image k)
+
+abbrev pub slotOlder : List ℕ → ℕ → Bool
+slotOlder image k = slotBy mostBytes image k
+
+abbrev pub EverySlotOlder : List ℕ → Type 0
+EverySlotOlder image = (k : ℕ) → k < slots → slotOlder image k ≡ true
 
 -- a list of bytes, and two images with the same texts
 abbrev pub Bytes : List ℕ → Type 0
@@ -62,6 +73,10 @@ pub record ImageClaims : Type 0 where
   -- "the image is good when every ..": its length is right and all 16 slots are good, and then only
   pub good-means : (image : List ℕ) → checkedOf image ≡ Checked.Good → (length image ≡ imageBytes) × EverySlotGood image
   pub good-when : (image : List ℕ) → length image ≡ imageBytes → EverySlotGood image → checkedOf image ≡ Checked.Good
+  -- 02, E9: a slot is good when it was so before and its text has no run of more than ten digits; a good image was good before
+  pub slot-now : (image : List ℕ) (k : ℕ) → slotGood image k ≡ slotOlder image k && fewDigits operandMost (textIn image k)
+  pub good-before : (image : List ℕ) → checkedOf image ≡ Checked.Good → olderOf image ≡ Checked.Good
+  pub older-means : (image : List ℕ) → olderOf image ≡ Checked.Good → (length image ≡ imageBytes) × EverySlotOlder image
   -- every text that is read from an image passes the check for stored text, and fits a body
   pub texts-pass : (image : List ℕ) (k : ℕ) → textGood (slotText image k) ≡ true
   pub texts-fit : (image : List ℕ) (k : ℕ) → length (slotText image k) ≤ bodyBytes

@@ -1,4 +1,4 @@
--- What an image of the programs is: its contents, its bodies, and when it is good. 01, "Image of the programs".
+-- What an image of the programs is: its contents, its bodies, and when it is good. 01, "Image of the programs"; 02, E9.
 -- Assumes nothing.
 use Prim.Native.Nat.{ℕ, zero, suc, _+_, _*_, _/_, _%_}
 use mathlib.Core.List.{List, [], _∷_, _++_}
@@ -6,7 +6,8 @@ use mathlib.Core.Bool.{Bool, true, cond, _&&_}
 use lib.ListN.{length, getD, take, drop}
 use lib.Dec.{ltb, leb, eqb}
 use Rattle.parts.specs.Parts.{part, put, padded}
-use Rattle.lines.specs.Texts.{textGood}
+use Rattle.digits.specs.Operand.{operandMost}
+use Rattle.lines.specs.Texts.{mostBytes, textGoodBy}
 
 -- "4,160 bytes"
 abbrev pub imageBytes : ℕ
@@ -69,12 +70,12 @@ zeros [] = true
 zeros (b ∷ bs) = eqb b 0 && zeros bs
 
 -- "good when every start is that, every length at most 256, every body passes the check for stored text, and
--- unused bytes are 0": for the entry and the body of one slot, which is to start so
-unfoldable pub goodAt : ℕ → List ℕ → List ℕ → Bool
-goodAt start entry body =
+-- unused bytes are 0": for the entry and the body of one slot, which is to start so, with operands of so many digits at most
+unfoldable pub goodAt : ℕ → ℕ → List ℕ → List ℕ → Bool
+goodAt most start entry body =
     eqb (startIn entry) start
     && leb (lengthIn entry) bodyBytes
-    && textGood (take (lengthIn entry) body)
+    && textGoodBy most (take (lengthIn entry) body)
     && zeros (drop (lengthIn entry) body)
 
 -- whether the image has a slot k
@@ -82,13 +83,24 @@ abbrev pub hasSlot : List ℕ → ℕ → Bool
 hasSlot image k = rightLength image && ltb k slots
 
 -- the same of slot k, its entry and body, and no other
-unfoldable pub slotGood : List ℕ → ℕ → Bool
-slotGood image k = hasSlot image k && goodAt (startOf k) (entryOf image k) (bodyOf image k)
+unfoldable pub slotBy : ℕ → List ℕ → ℕ → Bool
+slotBy most image k = hasSlot image k && goodAt most (startOf k) (entryOf image k) (bodyOf image k)
+
+-- 02, E9: "a program stored earlier with such an operand counts as bad"
+abbrev pub slotGood : List ℕ → ℕ → Bool
+slotGood image k = slotBy operandMost image k
 
 -- "every": slots 0 to n - 1 are good
-unfoldable pub slotsGood : List ℕ → ℕ → Bool
-slotsGood image zero = true
-slotsGood image (suc k) = slotsGood image k && slotGood image k
+unfoldable pub slotsBy : ℕ → List ℕ → ℕ → Bool
+slotsBy most image zero = true
+slotsBy most image (suc k) = slotsBy most image k && slotBy most image k
+
+abbrev pub slotsGood : List ℕ → ℕ → Bool
+slotsGood image n = slotsBy operandMost image n
+
+-- for start alone: slots 0 to n - 1 are good but for such operands
+abbrev pub slotsOlder : List ℕ → ℕ → Bool
+slotsOlder image n = slotsBy mostBytes image n
 
 -- the text of slot k; none where the slot is not good
 unfoldable pub slotText : List ℕ → ℕ → List ℕ

@@ -5,8 +5,8 @@ ghost use mathlib.Core.Bool.{_&&_};
 ghost use lib.ListN.{length};
 ghost use lib.Dec.{eqb};
 ghost use Rattle.image.specs.Image.{imageBytes, rightLength, slots, entryBytes, bodyBytes, wordAt, startOf, entryOf, bodyOf};
-ghost use Rattle.image.specs.Image.{zeros, goodAt, slotGood, slotText, withEntry, withBody};
-ghost use Rattle.image.specs.Calls.{checkedOf, StoredIs, ClearedIs};
+ghost use Rattle.image.specs.Image.{zeros, goodAt, slotBy, slotGood, slotText, withEntry, withBody};
+ghost use Rattle.image.specs.Calls.{checkedBy, checkedOf, olderOf, StoredIs, ClearedIs};
 ghost use Rattle.image.specs.Claims.{ImageClaims};
 
 // Whether an image is good.
@@ -47,11 +47,25 @@ const BYTE_VALUES: usize = 256;
 pub fn check_image(image: &[u8]) -> Checked
     ensures { λ r. ⌜ r ≡ checkedOf (now (image .entry)) ⌝ }
 {
+    check_by(image, digits::OPERAND_MOST)
+}
+
+// Whether an image is good but for operands of too many digits: a text has no more digits than bytes.
+pub fn check_older(image: &[u8]) -> Checked
+    ensures { λ r. ⌜ r ≡ olderOf (now (image .entry)) ⌝ }
+{
+    check_by(image, BODY_BYTES)
+}
+
+// Whether an image is good, with operands of so many digits at most.
+fn check_by(image: &[u8], most: usize) -> Checked
+    ensures { λ r. ⌜ r ≡ checkedBy most (now (image .entry)) ⌝ }
+{
     if image.len() != IMAGE_BYTES {
         return Checked::WrongLength;
     }
     for slot in 0..SLOTS {
-        if !slot_good(image, slot) {
+        if !slot_by(image, slot, most) {
             return Checked::Bad;
         }
     }
@@ -69,13 +83,25 @@ pub fn is_right_length(image: &[u8]) -> bool
 pub fn slot_good(image: &[u8], slot: u32) -> bool
     ensures { λ r. ⌜ r ≡ slotGood (now (image .entry)) slot ⌝ }
 {
+    slot_by(image, slot, digits::OPERAND_MOST)
+}
+
+// The same with operands of so many digits at most.
+fn slot_by(image: &[u8], slot: u32, most: usize) -> bool
+    ensures { λ r. ⌜ r ≡ slotBy most (now (image .entry)) slot ⌝ }
+{
     if image.len() != IMAGE_BYTES {
         return false;
     }
     if SLOTS <= slot {
         return false;
     }
-    good_at(start_of(slot), entry_of(image, slot), body_of(image, slot))
+    good_at(
+        start_of(slot),
+        entry_of(image, slot),
+        body_of(image, slot),
+        most,
+    )
 }
 
 // The text of a slot; none where the slot is not good.
@@ -167,10 +193,10 @@ fn word_at(bytes: &[u8], at: usize) -> usize
     low + BYTE_VALUES * high
 }
 
-// Whether an entry and a body are good as those of a slot that is to start so.
-fn good_at(start: usize, entry: &[u8], body: &[u8]) -> bool
+// Whether an entry and a body are good as those of a slot that is to start so, with operands of so many digits at most.
+fn good_at(start: usize, entry: &[u8], body: &[u8], most: usize) -> bool
     requires { ⌜ (length (now entry) ≡ entryBytes) × (length (now body) ≡ bodyBytes) ⌝ }
-    ensures { λ r. ⌜ r ≡ goodAt start (now (entry .entry)) (now (body .entry)) ⌝ }
+    ensures { λ r. ⌜ r ≡ goodAt most start (now (entry .entry)) (now (body .entry)) ⌝ }
 {
     if word_at(entry, 0) != start {
         return false;
@@ -179,7 +205,7 @@ fn good_at(start: usize, entry: &[u8], body: &[u8]) -> bool
     if BODY_BYTES < n {
         return false;
     }
-    if lines::check_text(&body[0..n]) {
+    if lines::check_text_by(&body[0..n], most) {
         return all_zero(&body[n..]);
     }
     false

@@ -2,7 +2,7 @@
 use Prim.Native.Nat.{ℕ, _≤_}
 use mathlib.Core.Path.{_≡_, refl}
 use mathlib.Core.List.{List, []}
-use mathlib.Core.Bool.{true, false}
+use mathlib.Core.Bool.{Bool, true, false}
 use native.Mathlib.Omega.{arith}
 use lib.Dec.{ltb}
 use lib.ListN.{length, take}
@@ -15,12 +15,12 @@ use Rattle.lines.specs.Texts.{mostBytes}
 use Rattle.lines.specs.Loops.{Checked}
 use Rattle.lines.proofs.BodyLaws.{no-bytes}
 use Rattle.lines.proofs.TakenLaws.{text-checked}
-use Rattle.image.specs.Image.{rightLength, slotText}
-use Rattle.image.proofs.HeldLaws.{text-passes, text-fits}
+use Rattle.image.specs.Image.{rightLength, slotGood, slotText}
+use Rattle.image.proofs.HeldLaws.{text-passes, text-fits, no-text}
 use Rattle.turns.specs.declared.Core.{Core}
 use Rattle.turns.specs.Turns.{freshCore, turnCore}
 use Rattle.drive.specs.Unit.{Drive}
-use Rattle.drive.specs.Calls.{begunWith, freshUnit, receivedBy, bodyBy, Feeding, feedOf, mostSample, Turning, turnOf}
+use Rattle.drive.specs.Calls.{begunWith, begunOn, freshUnit, receivedBy, bodyBy, Feeding, feedOf, mostSample, Turning, turnOf}
 use Rattle.obeying.specs.Deeds.{loads}
 use Rattle.drive.proofs.FeedLaws.{frame-does}
 use Rattle.keeping.specs.Kept.{Kept, Holds, CallsKeep}
@@ -40,7 +40,11 @@ module _ {P : List ℕ → Core → Type 0} (k : Kept P) where
 
   starts : (number : ℕ) (image body : List ℕ) → Holds P (freshUnit number image body)
   unfolding freshUnit
-  starts number image body = begun-keeps (slotText image 0) (text-checked (slotText image 0) (text-passes image 0)) (text-fits image 0)
+  starts number image body = go (slotGood image 0) refl
+    where
+      go : (b : Bool) → slotGood image 0 ≡ b → P (paddedText (slotText image 0)) (begunOn b (length (slotText image 0)))
+      go true e = begun-keeps (slotText image 0) (text-checked (slotText image 0) (text-passes image 0)) (text-fits image 0)
+      go false e = rw (no-text image 0 e) (k .held)
 
   feeds : (u : Drive) (bytes image buffer : List ℕ) → Holds P u → Holds P (feedOf u bytes image buffer .unit)
   unfolding feedOf

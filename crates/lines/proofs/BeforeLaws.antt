@@ -12,9 +12,9 @@ use borrow.Author.Tests.{eqb-true, le-ltb}
 use Rattle.parts.specs.Parts.{part}
 use Rattle.digits.specs.declared.Operand.{Operand}
 use Rattle.digits.specs.declared.Operand.the-variants.{Missing, Number, Above}
-use Rattle.digits.specs.Operand.{operandAt}
+use Rattle.digits.specs.Operand.{operandMost, operandUpTo}
 use Rattle.digits.specs.ReadBack.{spelling}
-use Rattle.digits.proofs.ReadBack.{spelled, number-past}
+use Rattle.digits.proofs.ReadBack.{spelled, number-past, up-to-number}
 use Rattle.commands.specs.declared.Command.{Command}
 use Rattle.commands.specs.declared.Fault.{Fault}
 use Rattle.commands.specs.declared.Read.{Read}
@@ -28,7 +28,7 @@ use Rattle.lines.specs.declared.Body.{Body}
 use Rattle.lines.specs.declared.Taken.{Taken}
 use Rattle.lines.specs.declared.Judged.{Judged}
 use Rattle.lines.specs.declared.Judged.the-variants.{Passes, Refused}
-use Rattle.lines.specs.Texts.{Reading, commands, faulty, Placed, placed, unplaced, before, goesOn, readingFrom, structured, storable, faultPlaces, storedPlaces, refusedAt, leftmost, judged, lineJudged, storedJudged, mostBytes}
+use Rattle.lines.specs.Texts.{Reading, commands, faulty, Placed, placed, unplaced, before, goesOn, readingFrom, structured, storable, faultPlaces, storedPlaces, refusedAt, leftmost, judged, lineJudged, storedBy, storedJudged, mostBytes}
 use Rattle.lines.specs.Bodies.{bodyOf, endsWithR, taken, behind, mostSlot, storeOf, storedAt, takenOf, lineOf, lineCode}
 use Rattle.lines.specs.Lists.{HostList, runText, allInRange, slotInRange, shaped, listFault, SpellsCommands, none, more, SpellsSlot, without, into, Spells, spells}
 use Rattle.lines.specs.Claims.{cutAt, ReadsBefore, Because, by-structure, by-command, by-slot}
@@ -36,8 +36,8 @@ use Rattle.lines.proofs.PlaceLaws.{nowhere, places-none, stored-none}
 use Rattle.lines.proofs.TextLaws.{reading-law}
 use Rattle.lines.proofs.TakenLaws.{no, textOf, text-run, text-length, store-bytes}
 use Rattle.lines.proofs.PieceLaws.{spelled-pieces}
-use Rattle.lines.proofs.ListLaws.{told}
-use Rattle.lines.proofs.SpellLaws.{reading-spells, body-length}
+use Rattle.lines.proofs.ListLaws.{spelled-head, told}
+use Rattle.lines.proofs.SpellLaws.{reading-spells, slot-few, body-length}
 
 -- ---- what stands before a bad command
 
@@ -124,7 +124,7 @@ reads-before {s} {head} {cs} {front} b tail p a w h k e n m =
     let bytes : List ℕ = head ++ (front ++ (82 ∷ [])) in
     let same : cutAt p b ≡ bytes = cut-is b head front tail p e n in
     let short : length bytes ≤ mostBytes = omega (arith, length-append head (front ++ (82 ∷ [])), length-append front (82 ∷ [])) in
-    let t = told true a (spelled-pieces w k) in
+    let t = told true (spelled-head a) (spelled-pieces w k) in
     record {
       means = l;
       spells = subst (λ (x : List ℕ). Spells l x) (sym same) (spells true a w);
@@ -175,25 +175,28 @@ module _ (b : List ℕ) (m : length b ≤ mostBytes) where
           text-run b ∙ ap (λ (x : List ℕ). x ++ runText run) (w .whole) ∙ append-assoc (w .front) tail (runText run) in
           by-command (w .there) (reads-before b (tail ++ runText run) (f .place) without (w .spelt) refl (w .ranges) bytes (w .counted) (omega (arith, text-length b, w .counted)))
 
-  store-because : (slot at : ℕ) (f : Fault) → getD (textOf b) 0 0 ≡ 115 → operandAt (textOf b) 1 ≡ Number slot at → leb slot mostSlot ≡ true
+  store-because : (slot at : ℕ) (f : Fault) → getD (textOf b) 0 0 ≡ 115 → operandUpTo operandMost (textOf b) 1 ≡ Number slot at → leb slot mostSlot ≡ true
       → taken (behind at (storedJudged (endsWithR b) (drop at (textOf b)))) (Taken.Store slot at (length (textOf b) - at)) ≡ Taken.Refused f → Because b f
-  unfolding storedJudged listFault t run
+  unfolding storedBy listFault t run
   store-because slot at f first number h e = judge (storedJudged run (drop at t)) refl e
     where
       s : List ℕ
       s = drop at t
 
       past : (1 < at) × (at ≤ length t)
-      past = number-past t 1 slot at number
+      past = number-past t 1 slot at (up-to-number operandMost t 1 slot at number .0)
 
       zeros : ℕ
-      zeros = spelled t 1 slot at number .zeros
+      zeros = spelled t 1 slot at (up-to-number operandMost t 1 slot at number .0) .zeros
 
       head : List ℕ
       head = 115 ∷ spelling zeros slot
 
       text : t ≡ head ++ s
-      text = drop-cons t 0 0 (omega (arith, past .0, past .1)) ∙ rw (first, spelled t 1 slot at number .bytes)
+      text = drop-cons t 0 0 (omega (arith, past .0, past .1)) ∙ rw (first, spelled t 1 slot at (up-to-number operandMost t 1 slot at number .0) .bytes)
+
+      few : length (spelling zeros slot) ≤ operandMost
+      few = slot-few t slot at number
 
       long : length head ≡ at
       long = omega (arith, length-append head s, ap length text, length-drop at t, past .1)
@@ -211,7 +214,7 @@ module _ (b : List ℕ) (m : length b ≤ mostBytes) where
           let l : HostList = record { slot = Into slot; listed = unplaced cs; run = run } in
           let broken : (storable (unplaced cs) && run) ≡ false = sym (stored-none run (length s) cs) ∙ k in
           let bytes : b ≡ head ++ (s ++ runText run) = text-run b ∙ ap (λ (x : List ℕ). x ++ runText run) text ∙ append-assoc head s (runText run) in
-          by-structure l (subst (λ (x : List ℕ). Spells l x) (sym bytes) (spells run (into slot zeros) (w .0))) (rw (h, w .1, broken)) (sym (ap (λ (x : Fault). x .code) same) ∙ two)
+          by-structure l (subst (λ (x : List ℕ). Spells l x) (sym bytes) (spells run (into slot zeros few) (w .0))) (rw (h, w .1, broken)) (sym (ap (λ (x : Fault). x .code) same) ∙ two)
       go g same (read q) =
           let w = before-bad s g q in
           let inside = bad-inside s (g .place - 1) (w .there) in
@@ -224,7 +227,7 @@ module _ (b : List ℕ) (m : length b ≤ mostBytes) where
           ∙ ap (λ (k : ℕ). Bad (fault (g .code) (k + g .place))) long
           ∙ ap Bad same in
           by-command there
-          (reads-before b (drop (g .place - 1) s ++ runText run) (f .place) (into slot zeros) (w .spelt) h (w .ranges) (body (w .front) (drop (g .place - 1) s) (w .whole))
+          (reads-before b (drop (g .place - 1) s ++ runText run) (f .place) (into slot zeros few) (w .spelt) h (w .ranges) (body (w .front) (drop (g .place - 1) s) (w .whole))
           (omega (arith, w .counted, long))
           (omega (arith, w .counted, long, inside, length-drop at t, past .1, text-length b)))
 
@@ -262,7 +265,7 @@ because b f l e = go (eqb (getD t 0 0) 115) refl e
     line Passes q k = no (cc)
     line (Refused g) q k = let same : g ≡ f = cc in line-because b m f (q ∙ ap Refused same)
 
-    store : getD t 0 0 ≡ 115 → (o : Operand) → operandAt t 1 ≡ o → storeOf o t (endsWithR b) ≡ Taken.Refused f → Because b f
+    store : getD t 0 0 ≡ 115 → (o : Operand) → operandUpTo operandMost t 1 ≡ o → storeOf o t (endsWithR b) ≡ Taken.Refused f → Because b f
     store s Missing w k = slot-because b m f s k
     store s (Above at) w k = slot-because b m f s k
     store s (Number n at) w k = slots (leb n mostSlot) refl k
@@ -271,7 +274,7 @@ because b f l e = go (eqb (getD t 0 0) 115) refl e
         slots true h q = store-because b m n at f s w h q
         slots false h q = slot-because b m f s q
 
-    go : (x : Bool) → eqb (getD t 0 0) 115 ≡ x → cond x (storeOf (operandAt t 1) t (endsWithR b)) (taken (lineJudged t) (Taken.Line (length t) (endsWithR b))) ≡ Taken.Refused f
+    go : (x : Bool) → eqb (getD t 0 0) 115 ≡ x → cond x (storeOf (operandUpTo operandMost t 1) t (endsWithR b)) (taken (lineJudged t) (Taken.Line (length t) (endsWithR b))) ≡ Taken.Refused f
         → Because b f
-    go true q k = store (eqb-true (getD t 0 0) 115 q) (operandAt t 1) refl k
+    go true q k = store (eqb-true (getD t 0 0) 115 q) (operandUpTo operandMost t 1) refl k
     go false q k = line (lineJudged t) refl k

@@ -10,3 +10,4 @@ pub mod CodeLaws
 pub mod SpellLaws
 pub mod FaultLaws
 pub mod BeforeLaws
+pub mod FewLaws

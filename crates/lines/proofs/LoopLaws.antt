@@ -14,7 +14,7 @@ use Rattle.commands.specs.declared.Read.the-variants.{At, Bad, End}
 use Rattle.commands.specs.Reading.{readAt}
 use Rattle.commands.proofs.ReadingLaws.{read-step}
 use Rattle.lines.specs.declared.Judged.the-variants.{Passes}
-use Rattle.lines.specs.Texts.{Reading, commands, faulty, Placed, placed, unplaced, before, goesOn, readingFrom, structured, skippable, rest, faultPlaces, storedPlaces, refusedAt, judged, lineJudged, storable, storedJudged, mostOpen}
+use Rattle.lines.specs.Texts.{Reading, commands, faulty, Placed, placed, unplaced, before, goesOn, readingFrom, structured, skippable, rest, faultPlaces, storedPlaces, refusedAt, judged, lineJudged, storable, storedBy, storedJudged, mostOpen}
 use Rattle.lines.specs.Loops.{after, Enclosed, start, next, scanTo, enclosing, Checked, Skippable, Lawful}
 use Rattle.lines.proofs.PlaceLaws.{nowhere, nil-none, places-none, stored-none}
 use Rattle.lines.proofs.TextLaws.{reading-law}
@@ -42,7 +42,7 @@ unfolding lineJudged
 line-passes t e = let p = passes (faultPlaces []) (readingFrom t 0) e in (p .0, p .1, sym (places-none [] (p .0)) ∙ p .2)
 
 pub stored-passes : (run : Bool) (t : List ℕ) → storedJudged run t ≡ Passes → (cs : List Placed) × (readingFrom t 0 ≡ commands cs) × ((storable (unplaced cs) && run) ≡ true)
-unfolding storedJudged
+unfolding storedBy
 stored-passes run t e =
     let p = passes (storedPlaces run (length t)) (readingFrom t 0) e in (p .0, p .1, sym (stored-none run (length t) (p .0)) ∙ p .2)
 

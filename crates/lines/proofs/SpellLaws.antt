@@ -11,8 +11,10 @@ use lib.Dec.{ltb, eqb}
 use borrow.Author.Tests.{ltb-false, eqb-true}
 use Rattle.parts.specs.Parts.{part, same}
 use Rattle.parts.proofs.Laws.{cases}
+use Rattle.digits.specs.declared.Operand.the-variants.{Number}
+use Rattle.digits.specs.Operand.{operandMost, operandUpTo}
 use Rattle.digits.specs.ReadBack.{spelling}
-use Rattle.digits.proofs.ReadBack.{spelled, number-past}
+use Rattle.digits.proofs.ReadBack.{spelled, number-past, up-to-number, read-length}
 use Rattle.commands.specs.declared.Command.{Command}
 use Rattle.commands.specs.declared.Read.{Read}
 use Rattle.commands.specs.declared.Read.the-variants.{At, Bad, End}
@@ -30,7 +32,7 @@ use Rattle.lines.specs.Claims.{Spelled, SpelledAs}
 use Rattle.lines.proofs.TextLaws.{reading-law}
 use Rattle.lines.proofs.LoopLaws.{line-passes, stored-passes, before-is}
 use Rattle.lines.proofs.CodeLaws.{Sound, read-sound, TakenCode, taken-code}
-use Rattle.lines.proofs.ListLaws.{spelled-taken}
+use Rattle.lines.proofs.ListLaws.{spelling-long, spelled-taken}
 use Rattle.lines.proofs.TakenLaws.{no, textOf, text-run, line-tested, store-tested, store-bytes}
 
 -- ---- a text that reads
@@ -81,6 +83,14 @@ reading-spells (placed p c ∷ cs) s at e = go (readAt s at) refl (sym (reading-
 
 -- ---- a line, a store
 
+-- the digits of a slot that was read
+pub slot-few : (t : List ℕ) (slot at : ℕ) (e : operandUpTo operandMost t 1 ≡ Number slot at)
+    → length (spelling (spelled t 1 slot at (up-to-number operandMost t 1 slot at e .0) .zeros) slot) ≤ operandMost
+slot-few t slot at e =
+    let k = up-to-number operandMost t 1 slot at e in
+    let w = spelled t 1 slot at (k .0) in
+    omega (arith, k .1, read-length t (drop at t) 1 (w .zeros) slot (w .bytes) (w .no-more), spelling-long (w .zeros) slot)
+
 pub body-length : (b : List ℕ) → bodyOf b ≡ Body.Line → length b ≤ mostBytes
 unfolding bodyOf
 body-length b e = go (ltb mostBytes (length b)) refl e
@@ -111,15 +121,16 @@ store-spelled b slot at n m e =
     let t : List ℕ = textOf b in
     let run : Bool = endsWithR b in
     let k = store-tested t run slot at n e in
-    let past = number-past t 1 slot at (k .number) in
-    let num = spelled t 1 slot at (k .number) in
+    let number = up-to-number operandMost t 1 slot at (k .number) .0 in
+    let past = number-past t 1 slot at number in
+    let num = spelled t 1 slot at number in
     let p = stored-passes run (drop at t) (k .passes) in
     let w = reading-spells (p .0) (drop at t) 0 (p .1) in
     let first : getD t 0 0 ≡ 115 = eqb-true (getD t 0 0) 115 (k .store) in
     let bytes = store-bytes b (spelling (num .zeros) slot) (drop at t) t (runText run) first (omega arith) (num .bytes) (text-run b) in
     let l : HostList = record { slot = Into slot; listed = unplaced (p .0); run = run } in
     spelled-as b l m
-    (subst (λ (x : List ℕ). Spells l x) bytes (spells run (into slot (num .zeros)) (w .0)))
+    (subst (λ (x : List ℕ). Spells l x) bytes (spells run (into slot (num .zeros) (slot-few t slot at (k .number))) (w .0)))
     (rw (k .in-range, w .1, p .2))
 
 -- a fault has a code, so what has none was taken

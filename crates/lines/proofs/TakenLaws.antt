@@ -11,8 +11,8 @@ use borrow.Author.Tests.{leb-true, le-leb, eqb-true}
 use Rattle.parts.specs.Parts.{part, same}
 use Rattle.digits.specs.declared.Operand.{Operand}
 use Rattle.digits.specs.declared.Operand.the-variants.{Missing, Number, Above}
-use Rattle.digits.specs.Operand.{operandAt}
-use Rattle.digits.proofs.ReadBack.{number-past, spelled}
+use Rattle.digits.specs.Operand.{operandMost, operandUpTo}
+use Rattle.digits.proofs.ReadBack.{number-past, spelled, up-to-number}
 use Rattle.digits.specs.ReadBack.{spelling}
 use Rattle.commands.specs.Table.{oneOf}
 use Rattle.commands.specs.Reading.{badOperand}
@@ -20,7 +20,7 @@ use Rattle.lines.specs.declared.Body.{Body}
 use Rattle.lines.specs.declared.Taken.{Taken}
 use Rattle.lines.specs.declared.Judged.{Judged}
 use Rattle.lines.specs.declared.Judged.the-variants.{Passes, Refused}
-use Rattle.lines.specs.Texts.{unplaced, storable, lineJudged, storedJudged, passed, textGood, mostBytes}
+use Rattle.lines.specs.Texts.{unplaced, storable, lineJudged, storedJudged, passed, textGoodBy, textGood, mostBytes}
 use Rattle.lines.specs.Bodies.{bodyOf, endsWithR, textEnd, taken, behind, mostSlot, storedAt, storeOf, takenOf, lineOf}
 use Rattle.lines.specs.Lists.{runText}
 use Rattle.lines.specs.Loops.{Checked}
@@ -60,7 +60,7 @@ pub record LineTaken (t : List ℕ) (run : Bool) (n : ℕ) (r : Bool) : Type 0 w
 
 pub record StoreTaken (t : List ℕ) (run : Bool) (slot at n : ℕ) : Type 0 where
   pub store : eqb (getD t 0 0) 115 ≡ true
-  pub number : operandAt t 1 ≡ Number slot at
+  pub number : operandUpTo operandMost t 1 ≡ Number slot at
   pub in-range : leb slot mostSlot ≡ true
   pub passes : storedJudged run (drop at t) ≡ Passes
   pub runs : run ≡ true
@@ -104,16 +104,16 @@ line-tested t run n r e = go (eqb (getD t 0 0) 115) refl e
         slots true k = not-line (behind at (storedJudged run (drop at t))) slot at (length t - at) n r k
         slots false k = cc
 
-    go : (b : Bool) → eqb (getD t 0 0) 115 ≡ b → cond b (storeOf (operandAt t 1) t run) (taken (lineJudged t) (Taken.Line (length t) run)) ≡ Taken.Line n r
+    go : (b : Bool) → eqb (getD t 0 0) 115 ≡ b → cond b (storeOf (operandUpTo operandMost t 1) t run) (taken (lineJudged t) (Taken.Line (length t) run)) ≡ Taken.Line n r
         → LineTaken t run n r
-    go true q k = no (store (operandAt t 1) k)
+    go true q k = no (store (operandUpTo operandMost t 1) k)
     go false q k = let w = is-line (lineJudged t) n (length t) r run k in record { no-store = q; passes = w .0; all = w .1; runs = w .2 }
 
 pub store-tested : (t : List ℕ) (run : Bool) (slot at n : ℕ) → takenOf t run ≡ Taken.Store slot at n → StoreTaken t run slot at n
 unfolding takenOf
 store-tested t run slot at n e = go (eqb (getD t 0 0) 115) refl e
   where
-    store : eqb (getD t 0 0) 115 ≡ true → (o : Operand) → operandAt t 1 ≡ o → storeOf o t run ≡ Taken.Store slot at n → StoreTaken t run slot at n
+    store : eqb (getD t 0 0) 115 ≡ true → (o : Operand) → operandUpTo operandMost t 1 ≡ o → storeOf o t run ≡ Taken.Store slot at n → StoreTaken t run slot at n
     store q Missing w k = no (cc)
     store q (Above next) w k = no (cc)
     store q (Number slot′ at′) w k = slots (leb slot′ mostSlot) refl k
@@ -131,9 +131,9 @@ store-tested t run slot at n e = go (eqb (getD t 0 0) 115) refl e
             }
         slots false h k = no (cc)
 
-    go : (b : Bool) → eqb (getD t 0 0) 115 ≡ b → cond b (storeOf (operandAt t 1) t run) (taken (lineJudged t) (Taken.Line (length t) run)) ≡ Taken.Store slot at n
+    go : (b : Bool) → eqb (getD t 0 0) 115 ≡ b → cond b (storeOf (operandUpTo operandMost t 1) t run) (taken (lineJudged t) (Taken.Line (length t) run)) ≡ Taken.Store slot at n
         → StoreTaken t run slot at n
-    go true q k = store q (operandAt t 1) refl k
+    go true q k = store q (operandUpTo operandMost t 1) refl k
     go false q k = no (not-store (lineJudged t) (length t) run slot at n k)
 
 -- ---- what a line that is taken has
@@ -158,16 +158,16 @@ store-bytes b digits text t r first some bytes whole =
     sym (append-assoc (115 ∷ digits) text r) ∙ ap (λ (x : List ℕ). x ++ r) (sym head) ∙ sym whole
 
 pub stored : (b : List ℕ) (slot at n : ℕ) → lineOf b ≡ Taken.Store slot at n → length b ≤ mostBytes → StoredFrom b slot at n
-unfolding lineOf textGood
+unfolding lineOf textGoodBy
 stored b slot at n e m =
     let t : List ℕ = textOf b in
     let k = store-tested t (endsWithR b) slot at n e in
-    let p = number-past t 1 slot at (k .number) in
+    let p = number-past t 1 slot at (up-to-number operandMost t 1 slot at (k .number) .0) in
     let l : length t ≤ length b = text-length b in
     let z : n ≡ length t - at = k .all in
     let same : part b at n ≡ drop at t = stored-part b at n (p .1) z in
     let short : length (drop at t) ≤ mostBytes = omega (arith, length-drop at t) in
-    let w = spelled t 1 slot at (k .number) in
+    let w = spelled t 1 slot at (up-to-number operandMost t 1 slot at (k .number) .0) in
     let first : getD t 0 0 ≡ 115 = eqb-true (getD t 0 0) 115 (k .store) in
     let bytes = store-bytes b (spelling (w .zeros) slot) (drop at t) t (runText (endsWithR b)) first (omega arith) (w .bytes) (text-run b) in
     record {
@@ -180,7 +180,7 @@ stored b slot at n e m =
     }
 
 pub text-checked : (t : List ℕ) → textGood t ≡ true → Checked t
-unfolding textGood
+unfolding textGoodBy
 text-checked t e = stored-checked true t (go (storedJudged true t) (and-eq-true-iff (leb (length t) mostBytes) (passed (storedJudged true t)) .0 e .1))
   where
     go : (j : Judged) → passed j ≡ true → j ≡ Passes

@@ -8,6 +8,7 @@ use mathlib.Core.Path.{_≡_}
 use lib.ListN.{length, getD, take}
 use Rattle.parts.specs.Parts.{part}
 use Rattle.commands.specs.declared.Command.{Command}
+use Rattle.digits.specs.Operand.{operandMost, fewDigits}
 use Rattle.digits.specs.ReadBack.{spelling}
 use Rattle.commands.specs.declared.Read.the-variants.{At, Bad}
 use Rattle.commands.specs.Table.{oneOf}
@@ -15,11 +16,11 @@ use Rattle.commands.specs.declared.Fault.{Fault}
 use Rattle.commands.specs.Reading.{fault, badOperand, readAt}
 use Rattle.lines.specs.declared.Body.{Body}
 use Rattle.lines.specs.declared.Taken.{Taken}
-use Rattle.lines.specs.Texts.{Placed, unplaced, goesOn, readingFrom, mostBytes, mostOpen, structured, storable, faultPlaces, storedPlaces, leftmost, textGood}
+use Rattle.lines.specs.Texts.{Placed, unplaced, goesOn, readingFrom, mostBytes, mostOpen, structured, storable, faultPlaces, storedPlaces, leftmost, textGoodBy, textGood, olderGood}
 use Rattle.lines.specs.Bodies.{bodyOf, textEnd, lineOf, mostSlot, takenCode, lineFault, lineCode}
 use Rattle.lines.specs.Lists.{HostList, runText, writtenOf, allInRange, slotInRange, shaped, listFault, listCode, list, listOf, Spells}
 use Rattle.lines.specs.Loops.{Enclosed, enclosing, Checked, Lawful}
-use Rattle.lines.specs.Examples.{examples, each, operands, judged}
+use Rattle.lines.specs.Examples.{examples, each, olders, checked-each, operands, judged}
 
 -- a body of at most 256 bytes spells a list with nothing wrong in it
 pub record SpelledAs (l : HostList) (b : List ℕ) : Type 0 where
@@ -82,13 +83,19 @@ pub record LineClaims : Type 0 where
   pub list-code : (l : HostList) → lineCode (writtenOf l) ≡ listCode l
   -- a list that is taken reads back, slot and `R` included
   pub reads-back : (l : HostList) → listCode l ≡ 0 → listOf (writtenOf l) ≡ list l
-  -- what the host writes is a spelling of its list
-  pub written-spells : (l : HostList) → Spells l (writtenOf l)
+  -- what the host writes of a list in range is a spelling of it
+  pub written-spells : (l : HostList) → (slotInRange (l .slot) && allInRange (l .listed)) ≡ true → Spells l (writtenOf l)
   -- every spelling, leading zeros and a bare `G` or `H` too, is taken and reads as its list: no line is refused that 01 takes
   pub spelled-taken : {l : HostList} {b : List ℕ} → SpelledAs l b → (lineCode b ≡ 0) × (listOf b ≡ list l)
   -- nothing else reads as a list, and what is taken as a line or a store reads as one: no line is taken that 01 refuses
   pub reads-spelled : (b : List ℕ) (l : HostList) → listOf b ≡ list l → SpelledAs l b
   pub taken-spelled : (b : List ℕ) → bodyOf b ≡ Body.Line → takenCode (lineOf b) ≡ 0 → Spelled b
+  -- 02, E9: what is taken has no run of more than ten digits, in its slot neither, and what is checked has none
+  pub taken-few : (b : List ℕ) → bodyOf b ≡ Body.Line → takenCode (lineOf b) ≡ 0 → fewDigits operandMost b ≡ true
+  pub checked-few : (t : List ℕ) → Checked t → fewDigits operandMost t ≡ true
+  -- "also in stored text": that, and nothing else, is new; the older reading has no limit, since a greater one reads the same
+  pub good-now : (t : List ℕ) → textGood t ≡ olderGood t && fewDigits operandMost t
+  pub older-most : (most : ℕ) (t : List ℕ) → mostBytes ≤ most → textGoodBy most t ≡ olderGood t
   -- "(2)", "(3)": there is no other code
   pub codes : (b : List ℕ) → oneOf (0 ∷ 2 ∷ 3 ∷ []) (lineCode b) ≡ true
   -- "the first fault from the left": a text read from a place is its command there, then the text read from behind it
@@ -123,5 +130,7 @@ pub record LineClaims : Type 0 where
   pub enclosed-by : {t : List ℕ} {at : ℕ} {starts : List ℕ} → Enclosed t at starts → starts ≡ enclosing t at
   -- K5 to K8, K11 and the edges around them
   pub edges : each examples ≡ true
+  -- 02, E9: stored texts at the edges of ten digits
+  pub older-edges : checked-each olders ≡ true
   -- the table of commands: the last good and the first bad operand of every row
   pub ranges : judged operands ≡ true

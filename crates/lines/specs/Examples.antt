@@ -1,19 +1,25 @@
 -- Bodies, the codes that an idle unit gives them, 0 where it takes them, and the places of their faults, 0 where there is none:
 -- K5 to K8 and K11 of 01, and edges around them.
 -- Assumes nothing.
-use Prim.Native.Nat.{ℕ}
+use Prim.Native.Nat.{ℕ, zero, suc}
 use Prim.Native.Char.{code}
 use Prim.Native.String as Text
 use mathlib.Core.List.{List, [], _∷_, _++_}
-use mathlib.Core.Bool.{Bool, true, _&&_}
+use mathlib.Core.Bool.{Bool, true, false, _&&_, not}
 use lib.ListN.{replicate}
 use lib.Dec.{eqb}
+use Rattle.lines.specs.Texts.{textGood, olderGood}
 use Rattle.lines.specs.Bodies.{lineFault, lineCode}
 
 -- the bytes of a text
 unfoldable pub bytes : Text.String → List ℕ
 bytes Text.[] = []
 bytes (Text._∷_ c s) = code c ∷ bytes s
+
+-- so many times the same bytes
+unfoldable pub many : ℕ → List ℕ → List ℕ
+many zero b = []
+many (suc k) b = b ++ many k b
 
 pub record Example : Type 0 where
   pub body : List ℕ
@@ -61,7 +67,7 @@ examples =
     ∷ example (bytes "s3A5") 2 5
     ∷ example (bytes "s0z0z0z0z0z0z0z0z0z0z0z0z0z0z0R") 0 0
     ∷ example (bytes "s0z0z0z0z0z0z0z0z0z0z0z0z0z0z0z0R") 2 31
-    -- 02, E6: "the leftmost of"; "a fifth `g` (it still opens)"; "for a missing `R`, body length plus 1", here 257; a bad slot is told at the `s`
+    -- 02, E6: "the leftmost of"; "a fifth `g` (it still opens)"; "for a missing `R`, body length plus 1", here of the longest store; a bad slot is told at the `s`
     ∷ example (bytes "A1gA2") 2 3
     ∷ example (bytes "gP1G2G3R") 2 6
     ∷ example (bytes "A1gggggR") 2 3
@@ -71,7 +77,7 @@ examples =
     ∷ example (bytes "s12gA5") 2 4
     ∷ example (bytes "s12G1x1") 2 6
     ∷ example (bytes "sA5R") 3 1
-    ∷ example (115 ∷ replicate 255 48) 2 257
+    ∷ example (115 ∷ (replicate 10 48 ++ many 14 (122 ∷ replicate 10 48))) 2 166
     ∷ example (bytes "A1L0R") 3 3
     ∷ example (bytes "A1G1R") 2 3
     ∷ example (bytes "G1gP1R") 2 1
@@ -88,10 +94,54 @@ examples =
     ∷ example (bytes "R") 0 0
     ∷ example (bytes "X") 0 0
     ∷ example [] 0 0
-    -- "the body has 0 to 256 bytes", "leading zeros allowed"
-    ∷ example (65 ∷ (replicate 254 48 ++ bytes "R")) 0 0
+    -- "the body has 0 to 256 bytes"
+    ∷ example (many 127 (bytes "z0") ++ bytes "gG") 0 0
     ∷ example (65 ∷ (replicate 255 48 ++ bytes "R")) 2 0
+    -- 02, E9: ten digits are taken, eleven refused, before their range and whatever they are; the slot's too; in a text to be stored
+    ∷ example (bytes "A0000000005R") 0 0
+    ∷ example (bytes "A00000000005R") 3 1
+    ∷ example (65 ∷ (replicate 254 48 ++ bytes "R")) 3 1
+    ∷ example (bytes "A1V00000000001R") 3 3
+    ∷ example (bytes "s0000000003R") 0 0
+    ∷ example (bytes "s00000000003R") 3 1
+    ∷ example (bytes "s3A00000000005R") 3 3
+    ∷ example (bytes "G00000000005R") 3 1
+    ∷ example (bytes "H00000000002R") 3 1
+    ∷ example (bytes "S00000000002A0R") 3 1
+    ∷ example (bytes "A00000000005x") 3 1
+    ∷ example (bytes "xA00000000005") 2 1
     ∷ []
+
+-- ---- stored texts
+
+-- 02, E9: a text, whether it passes the check for stored text, and whether it did before
+pub record Older : Type 0 where
+  pub text : List ℕ
+  pub now : Bool
+  pub earlier : Bool
+
+abbrev pub older : List ℕ → Bool → Bool → Older
+older t n e = record { text = t; now = n; earlier = e }
+
+unfoldable pub olders : List Older
+olders =
+    older (bytes "A0000000005") true true
+    ∷ older (bytes "A00000000005") false true
+    ∷ older (65 ∷ replicate 255 48) false true
+    ∷ older (65 ∷ replicate 256 48) false false
+    ∷ older (bytes "gA5G00000000002") false true
+    ∷ older (bytes "A42949672970") false false
+    ∷ older (bytes "H00000000002") false false
+    ∷ older (bytes "G00000000002") false false
+    ∷ []
+
+abbrev pub alike : Bool → Bool → Bool
+alike true b = b
+alike false b = not b
+
+unfoldable pub checked-each : List Older → Bool
+checked-each [] = true
+checked-each (o ∷ os) = alike (textGood (o .text)) (o .now) && alike (olderGood (o .text)) (o .earlier) && checked-each os
 
 -- ---- the table of commands, at its edges
 
@@ -108,7 +158,7 @@ of l r good bad = record { before = l; behind = r; good = good; bad = bad }
 -- "Other operands are required": an empty one is among the bad ones
 unfoldable pub operands : List Operands
 operands =
-    of "A" "R" ("0" ∷ "2147483647" ∷ "002147483647" ∷ []) ("" ∷ "2147483648" ∷ [])
+    of "A" "R" ("0" ∷ "2147483647" ∷ "0000000005" ∷ []) ("" ∷ "2147483648" ∷ "00000000005" ∷ "002147483647" ∷ [])
     ∷ of "P" "R" ("0" ∷ "2147483647" ∷ []) ("" ∷ "2147483648" ∷ [])
     ∷ of "D" "R" ("0" ∷ "2147483647" ∷ []) ("" ∷ "2147483648" ∷ [])
     ∷ of "z" "R" ("0" ∷ "2147483647" ∷ []) ("" ∷ "2147483648" ∷ [])
@@ -125,11 +175,11 @@ operands =
     ∷ of "b" "R" ("9600" ∷ "19200" ∷ "38400" ∷ []) ("" ∷ "0" ∷ "9599" ∷ "9601" ∷ "38401" ∷ "57600" ∷ [])
     ∷ of "M" "R" ("0" ∷ "30000" ∷ []) ("" ∷ "30001" ∷ [])
     -- "none means 0"; "none means 02"
-    ∷ of "gA0G" "R" ("" ∷ "0" ∷ "30000" ∷ []) ("30001" ∷ [])
-    ∷ of "H" "R" ("" ∷ "01" ∷ "11" ∷ "02" ∷ "12" ∷ "03" ∷ "13" ∷ "04" ∷ "14" ∷ []) ("0" ∷ "1" ∷ "00" ∷ "10" ∷ "05" ∷ "15" ∷ "21" ∷ "011" ∷ [])
-    ∷ of "S" "A0R" ("01" ∷ "11" ∷ "02" ∷ "12" ∷ "03" ∷ "13" ∷ "04" ∷ "14" ∷ []) ("" ∷ "0" ∷ "1" ∷ "00" ∷ "10" ∷ "05" ∷ "15" ∷ "21" ∷ "011" ∷ [])
+    ∷ of "gA0G" "R" ("" ∷ "0" ∷ "30000" ∷ "0000030000" ∷ []) ("30001" ∷ "00000030000" ∷ [])
+    ∷ of "H" "R" ("" ∷ "01" ∷ "11" ∷ "02" ∷ "12" ∷ "03" ∷ "13" ∷ "04" ∷ "14" ∷ []) ("0" ∷ "1" ∷ "00" ∷ "10" ∷ "05" ∷ "15" ∷ "21" ∷ "011" ∷ "00000000002" ∷ [])
+    ∷ of "S" "A0R" ("01" ∷ "11" ∷ "02" ∷ "12" ∷ "03" ∷ "13" ∷ "04" ∷ "14" ∷ []) ("" ∷ "0" ∷ "1" ∷ "00" ∷ "10" ∷ "05" ∷ "15" ∷ "21" ∷ "011" ∷ "00000000002" ∷ [])
     ∷ of "e" "R" ("0" ∷ "15" ∷ []) ("" ∷ "16" ∷ [])
-    ∷ of "s" "R" ("0" ∷ "15" ∷ "015" ∷ []) ("" ∷ "16" ∷ [])
+    ∷ of "s" "R" ("0" ∷ "15" ∷ "015" ∷ "0000000003" ∷ []) ("" ∷ "16" ∷ "00000000003" ∷ [])
     ∷ []
 
 -- each operand, where it stands, gives this code

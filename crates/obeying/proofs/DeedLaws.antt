@@ -6,12 +6,13 @@ use mathlib.Core.Bool.{Bool, true, false, cond, _&&_, and-eq-true-iff}
 use native.Mathlib.Omega.{arith}
 use native.Mathlib.Decide.{decLt}
 use lib.Dec.{ltb, eqb}
-use lib.ListN.{length}
+use lib.ListN.{length, drop}
 use borrow.Author.Tests.{ltb-true, lt-ltb, eqb-true}
 use Rattle.parts.proofs.Laws.{cases}
 use Rattle.digits.specs.declared.Operand.{Operand}
 use Rattle.digits.specs.declared.Operand.the-variants.{Missing, Number, Above}
-use Rattle.digits.specs.Operand.{operandAt}
+use Rattle.digits.specs.Operand.{digitRun, operandAt, operandMost, operandUpTo}
+use Rattle.digits.proofs.ReadBack.{up-to-number, read-length}
 use Rattle.commands.specs.declared.Fault.{Fault}
 use Rattle.commands.specs.Reading.{fault}
 use Rattle.commands.proofs.TableLaws.{each, each-one}
@@ -97,14 +98,26 @@ module _ (body : List ℕ) (c : Core) where
 
   -- 02, E3: such a line that gets no code has its number in range
   speed-does : c .running ≡ true → isEndless (c .motor .wait) ≡ true → speedLine body ≡ true → takenCode (lineOf body) ≡ 0 → length body ≤ mostBytes → Speeds body c (speedIn body)
-  speed-does r w s z short = go (operandAt body 1) refl (sym (speed-code body s) ∙ z)
+  unfolding digitRun
+  speed-does r w s z short = go (operandUpTo operandMost body 1) refl (sym (speed-code body s) ∙ z)
     where
-      go : (o : Operand) → operandAt body 1 ≡ o → speedCode (operandAt body 1) ≡ 0 → Speeds body c (numberIn (operandAt body 1))
+      go : (o : Operand) → operandUpTo operandMost body 1 ≡ o → speedCode (operandUpTo operandMost body 1) ≡ 0 → Speeds body c (numberIn (operandAt body 1))
       go Missing e k = let q : _≡_ {A = ℕ} 3 0 = rw e at k in absurd (omega arith)
       go (Above next) e k = let q : _≡_ {A = ℕ} 3 0 = rw e at k in absurd (omega arith)
       go (Number n next) e k =
-          let w′ = spelled-whole (speed-body body s) n next e in
-          rw e (record { runs = r; endless = w; short = short; zeros = w′ .0; whole = w′ .1; in-range = ranged (fits n) refl (rw e at k) })
+          let at = up-to-number operandMost body 1 n next e in
+          let w′ = spelled-whole (speed-body body s) n next (at .0) in
+          let long = read-length body (82 ∷ []) 1 (w′ .0) n (ap (drop 1) (w′ .1)) refl in
+          rw (at .0)
+          (record {
+            runs = r;
+            endless = w;
+            short = short;
+            zeros = w′ .0;
+            few = omega (arith, at .1, long);
+            whole = w′ .1;
+            in-range = ranged (fits n) refl (rw e at k);
+          })
         where
           ranged : (f : Bool) → fits n ≡ f → _≡_ {A = ℕ} (cond (fits n) 0 3) 0 → fits n ≡ true
           ranged true q z = q

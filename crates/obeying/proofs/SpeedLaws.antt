@@ -12,9 +12,9 @@ use borrow.Author.Tests.{lt-ltb, eqb-true, eq-eqb}
 use Rattle.parts.proofs.Laws.{cases}
 use Rattle.digits.specs.declared.Operand.{Operand}
 use Rattle.digits.specs.declared.Operand.the-variants.{Missing, Number, Above}
-use Rattle.digits.specs.Operand.{digitRun, operandAt}
+use Rattle.digits.specs.Operand.{digitRun, operandAt, operandMost, operandUpTo}
 use Rattle.digits.specs.ReadBack.{spelling}
-use Rattle.digits.proofs.ReadBack.{number-past, above-past, spelled}
+use Rattle.digits.proofs.ReadBack.{number-past, above-past, spelled, up-to-number}
 use Rattle.commands.specs.declared.Command.the-variants.{Plain}
 use Rattle.commands.specs.declared.Act.the-variants.{Set}
 use Rattle.commands.specs.declared.Setting.the-variants.{TopSpeed}
@@ -22,7 +22,7 @@ use Rattle.commands.specs.declared.Range.{Range}
 use Rattle.commands.specs.declared.Read.{Read}
 use Rattle.commands.specs.declared.Read.the-variants.{At, Bad, End}
 use Rattle.commands.specs.Table.{table, find, asksOf, commandOf, within}
-use Rattle.commands.specs.Reading.{badOperand, required, readAt}
+use Rattle.commands.specs.Reading.{badOperand, required, readBy, readAt}
 use Rattle.commands.specs.Writing.{inRange}
 use Rattle.commands.proofs.ReadingLaws.{read-append, read-end}
 use Rattle.lines.specs.declared.Taken.{Taken}
@@ -84,8 +84,8 @@ speed-body b h =
 
 module _ {b t : List ℕ} (s : SpeedBody b t) where
   -- the one command of the text is read as in the body: the `R` behind it is no digit
-  read-there : readAt t 0 ≡ required 86 (Range.From 1 16777216) (operandAt b 1) 1
-  unfolding digitRun asksOf find table readAt
+  read-there : readAt t 0 ≡ required 86 (Range.From 1 16777216) (operandUpTo operandMost b 1) 1
+  unfolding digitRun asksOf find table readBy
   read-there =
       let l : 0 < length b = omega (arith, ap length (s .whole), length-append t (82 ∷ []), s .some) in
       sym (read-append t (82 ∷ []) 0 (s .some) refl) ∙ ap (λ (x : List ℕ). readAt x 0) (sym (s .whole)) ∙ rw (lt-ltb 0 (length b) l, s .first)
@@ -102,19 +102,19 @@ module _ {b t : List ℕ} (s : SpeedBody b t) where
   unfolding takenOf
   judged-code j e run = rw (first-there, e)
 
-  bad-code : (run : Bool) → required 86 (Range.From 1 16777216) (operandAt b 1) 1 ≡ Bad (badOperand 1) → takenCode (takenOf t run) ≡ 3
+  bad-code : (run : Bool) → required 86 (Range.From 1 16777216) (operandUpTo operandMost b 1) 1 ≡ Bad (badOperand 1) → takenCode (takenOf t run) ≡ 3
   unfolding lineJudged
   bad-code run e = judged-code (Refused (badOperand 1)) (rw (reading-law t 0, read-there, e)) run
 
-  good-code : (n next : ℕ) (run : Bool) → operandAt b 1 ≡ Number n next → fits n ≡ true → takenCode (takenOf t run) ≡ 0
+  good-code : (n next : ℕ) (run : Bool) → operandUpTo operandMost b 1 ≡ Number n next → fits n ≡ true → takenCode (takenOf t run) ≡ 0
   unfolding lineJudged faultPlaces inRange within commandOf asksOf find table
   good-code n next run e f =
-      let z : next ≡ length t = sym (ap operandEnd e) ∙ s .end in
+      let z : next ≡ length t = sym (ap operandEnd (up-to-number operandMost b 1 n next e .0)) ∙ s .end in
       let one : readAt t 0 ≡ At (Plain (Set TopSpeed n)) (length t) = read-there ∙ rw (e, f, z) in
       let none : readingFrom t (length t) ≡ commands [] = reading-law t (length t) ∙ rw (read-end t (length t) (omega arith)) in
       judged-code Passes (rw (reading-law t 0, one, none)) run
 
-  pub code-by : (o : Operand) → operandAt b 1 ≡ o → (run : Bool) → takenCode (takenOf t run) ≡ speedCode o
+  pub code-by : (o : Operand) → operandUpTo operandMost b 1 ≡ o → (run : Bool) → takenCode (takenOf t run) ≡ speedCode o
   unfolding inRange within asksOf find table
   code-by Missing e run = bad-code run (rw e)
   code-by (Above next) e run = bad-code run (rw e)
@@ -131,6 +131,6 @@ module _ {b t : List ℕ} (s : SpeedBody b t) where
       (w .zeros, drop-cons b 0 0 l ∙ rw (s .first, w .bytes, rest))
 
 -- the code that an idle unit gives it
-pub speed-code : (b : List ℕ) → speedLine b ≡ true → takenCode (lineOf b) ≡ speedCode (operandAt b 1)
+pub speed-code : (b : List ℕ) → speedLine b ≡ true → takenCode (lineOf b) ≡ speedCode (operandUpTo operandMost b 1)
 unfolding lineOf
-speed-code b h = code-by (speed-body b h) (operandAt b 1) refl (endsWithR b)
+speed-code b h = code-by (speed-body b h) (operandUpTo operandMost b 1) refl (endsWithR b)

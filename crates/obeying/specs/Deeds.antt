@@ -5,6 +5,8 @@ use mathlib.Core.Path.{_≡_}
 use mathlib.Core.List.{List, [], _∷_, _++_}
 use mathlib.Core.Bool.{Bool, true, false}
 use lib.ListN.{length, take}
+use Rattle.digits.specs.Decimal.{decimal}
+use Rattle.digits.specs.Operand.{operandMost}
 use Rattle.digits.specs.ReadBack.{spelling}
 use Rattle.commands.specs.declared.Fault.{Fault}
 use Rattle.commands.specs.declared.Command.the-variants.{Plain}
@@ -43,12 +45,13 @@ pub record Loads (body : List ℕ) (n : ℕ) : Type 0 where
   pub short : length body ≤ mostBytes
   pub checked : Checked (take n body)
 
--- 02, E3: "A body of exactly `V`, its operand and `R` .. while an endless move is on": "leading zeros allowed", the number in the range of `V`
+-- 02, E3: "A body of exactly `V`, its operand and `R` .. while an endless move is on": "leading zeros allowed", ten digits at most, the number in the range of `V`
 pub record Speeds (body : List ℕ) (c : Core) (n : ℕ) : Type 0 where
   pub runs : c .running ≡ true
   pub endless : isEndless (c .motor .wait) ≡ true
   pub short : length body ≤ mostBytes
   pub zeros : ℕ
+  pub few : zeros + length (decimal n) ≤ operandMost
   pub whole : body ≡ 86 ∷ (spelling zeros n ++ (82 ∷ []))
   pub in-range : inRange (Plain (Set TopSpeed n)) ≡ true
 

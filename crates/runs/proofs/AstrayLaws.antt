@@ -4,6 +4,7 @@ use mathlib.Core.Path.{_≡_}
 use mathlib.Core.Bool.{Bool, true, false, false≢true}
 use native.Mathlib.Omega.{arith}
 use Rattle.lines.proofs.LoopLaws.{lawful}
+use Rattle.lines.proofs.FewLaws.{checked-few}
 use Rattle.flow.proofs.FlowLaws.{depth-most, exactly, no-fault, begin-goes, end-goes}
 use Rattle.motor.specs.Motion.{room, counted, reported}
 use Rattle.motor.proofs.MotorLaws.{nothing-cut}
@@ -33,6 +34,7 @@ module _ (u : Drive) (h : SoundUnit u) where
   unfolding room reported
   never-astray = record {
     checked = h .flow .checked;
+    few-digits = checked-few (textOf u) (h .flow .checked);
     stands = h .flow .place;
     exactly = exactly (h .flow);
     at-most-four = depth-most (h .flow);

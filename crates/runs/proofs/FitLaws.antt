@@ -94,6 +94,7 @@ pub fit-kept : Kept FitIn
 unfolding reported
 fit-kept = record {
   fresh = (fresh-fit, padded-bytes []);
+  held = (ended-fit 1 freshCore fresh-fit (omega arith), padded-bytes []);
   obeys = λ {body} {text} h d. obeys-fit text h d;
   turns = λ {sample} {steps} {text} h l r d. steps-fit text (record { settings = h .0 .settings; sample = l; endless = h .0 .endless; code = h .0 .code }, h .1) d;
 }

@@ -134,6 +134,7 @@ steps-sound text {image} {c} f m z (enters-text slot e) =
 pub sound-kept : Kept SoundIn
 sound-kept = record {
   fresh = in-bytes (omega arith) (fresh-sound (text-checked [] empty-good));
+  held = in-bytes (omega arith) (ended-sound 1 freshCore (fresh-sound (text-checked [] empty-good)));
   obeys = λ {body} {text} h d. obeys-sound text h d;
   turns = λ {sample} {steps} {text} h l r d. steps-sound text (h .flow) (reported-ok sample steps (h .motor) r) (h .code-0) d;
 }

@@ -2,12 +2,12 @@
 use Prim.Native.Nat.{ℕ}
 use mathlib.Core.Path.{_≡_, refl, sym, ap, subst, _∙_}
 use mathlib.Core.List.{List}
-use mathlib.Core.Bool.{true, false, false≢true}
+use mathlib.Core.Bool.{Bool, true, false, false≢true}
 use lib.ListN.{length, take}
 use lib.Dec.{ltb}
 use Rattle.parts.proofs.Laws.{cases}
 use Rattle.commands.specs.declared.Command.the-variants.{Jump}
-use Rattle.image.specs.Image.{rightLength, slots, slotsGood, slotGood, slotText}
+use Rattle.image.specs.Image.{rightLength, slots, slotsOlder, slotGood, slotText}
 use Rattle.image.proofs.HeldLaws.{text-fits}
 use Rattle.frames.specs.Addresses.{isUnit}
 use Rattle.flow.specs.Flow.{begun}
@@ -19,7 +19,7 @@ use Rattle.drive.specs.Unit.{Drive}
 use Rattle.obeying.specs.declared.Obeyed.{Obeyed}
 use Rattle.obeying.specs.Obeying.{loadedAs}
 use Rattle.obeying.specs.Deeds.{Obeys, refuses, tells, stores, clears, stops, resumes, speeds, again, loads}
-use Rattle.drive.specs.Calls.{Starting, freshUnit, noUnit, startOf, receivedBy, bodyBy, Turning}
+use Rattle.drive.specs.Calls.{Starting, begunOn, freshUnit, noUnit, startOf, receivedBy, bodyBy, Turning}
 use Rattle.drive.proofs.FeedLaws.{frame-does}
 use Rattle.runs.specs.Reach.{Call, Feed, Turn, after, textOf}
 use Rattle.runs.proofs.SoundLaws.{text-kept}
@@ -103,12 +103,18 @@ fresh-first : AtFirst freshCore
 unfolding freshCore
 fresh-first z = absurd (false≢true z)
 
+-- on a good program 0 or a bad one
+on-first : (good : Bool) (n : ℕ) → AtFirst (begunOn good n)
+unfolding ended
+on-first true n = cases AtFirst (ltb 0 n) (λ l. started-first n freshCore) (λ l. fresh-first)
+on-first false n = λ z. absurd (false≢true z)
+
 start-first : (number : ℕ) (image body text : List ℕ) → AtFirst (startOf number image body text .unit .core)
 unfolding startOf freshUnit noUnit
 start-first number image body text =
     cases P (isUnit number)
-    (λ q. cases P (rightLength image) (λ r. cases P (slotsGood image slots)
-    (λ s. cases AtFirst (ltb 0 (length (slotText image 0))) (λ l. started-first (length (slotText image 0)) freshCore) (λ l. fresh-first)) (λ s. fresh-first)) (λ r. fresh-first))
+    (λ q. cases P (rightLength image) (λ r. cases P (slotsOlder image slots)
+    (λ s. on-first (slotGood image 0) (length (slotText image 0))) (λ s. fresh-first)) (λ r. fresh-first))
     (λ q. fresh-first)
   where
     P : Starting → Type 0

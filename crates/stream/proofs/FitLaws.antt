@@ -114,6 +114,7 @@ steps-fits text {image} f (enters-text slot e) = record { text = padded-fits (sl
 pub fits-kept : Kept FitsIn
 fits-kept = record {
   fresh = record { text = padded-fits []; core = fresh-fits };
+  held = record { text = padded-fits []; core = ended-fits 1 freshCore fresh-fits };
   obeys = λ {body} {text} h d. obeys-fits text h d;
   turns = λ {sample} {steps} {text} {image} {c} f l r d. steps-fits text
       (record { text = f .text; core = record { motor = reported-fits sample steps (c .motor) (omega arith) (f .core .motor); settings = f .core .settings; endless = f .core .endless } }) d;

@@ -15,7 +15,7 @@ use Rattle.lines.specs.declared.Immediate.{Immediate}
 use Rattle.lines.specs.declared.Immediate.the-variants.{Terminate, Status, CurrentText, Position, Speed, Sample, EndlessSpeed, StepSize, Correction, Clear}
 use Rattle.lines.specs.declared.Body.{Body}
 use Rattle.lines.specs.Bodies.{bodyOf}
-use Rattle.image.specs.Image.{rightLength, slots, slotsGood}
+use Rattle.image.specs.Image.{rightLength, slots, slotsOlder}
 use Rattle.frames.specs.declared.Frame.{Frame}
 use Rattle.frames.specs.declared.Framing.{Framing}
 use Rattle.frames.specs.Addresses.{isUnit, calledOf}
@@ -304,7 +304,7 @@ plain-leaves u bytes image buffer e =
 pub none-at-start : (number : ℕ) (image body text : List ℕ) → startOf number image body text .unit .last ≡ Last.Never
 unfolding startOf freshUnit noUnit
 none-at-start number image body text =
-    cases Q (isUnit number) (λ n. cases Q (rightLength image) (λ l. cases Q (slotsGood image slots) (λ g. refl) (λ g. refl)) (λ l. refl)) (λ n. refl)
+    cases Q (isUnit number) (λ n. cases Q (rightLength image) (λ l. cases Q (slotsOlder image slots) (λ g. refl) (λ g. refl)) (λ l. refl)) (λ n. refl)
   where
     Q : Starting → Type 0
     Q s = s .unit .last ≡ Last.Never

@@ -1,7 +1,7 @@
 //! What a body is refused for, by name, so that a comparison can say that all
 //! of it occurred: each cause of paper 02, E6, alone and left of another.
 
-use crate::command::{self, Misread};
+use crate::command::{self, Misread, DIGITS};
 use crate::line;
 use crate::structure::{Cause, Structure};
 use crate::BODY;
@@ -27,7 +27,7 @@ pub const NAMES: &[&str] = &[
     "the fifteenth stored command",
     "the fifteenth stored command left of another",
     "a missing R",
-    "a missing R behind 256 bytes",
+    "a missing R behind 165 bytes",
     "place 256",
 ];
 
@@ -113,7 +113,8 @@ impl Walk {
             Cause::Fifteenth => {
                 ("the fifteenth stored command", "the fifteenth stored command left of another")
             }
-            Cause::NoRun if body.len() == BODY => return vec!["a missing R behind 256 bytes"],
+            // E9: a slot and 14 operands of ten digits.
+            Cause::NoRun if body.len() == 15 * (1 + DIGITS) => return vec!["a missing R behind 165 bytes"],
             Cause::NoRun => return vec!["a missing R"],
         };
         vec![if another { left } else { alone }]
@@ -127,7 +128,7 @@ mod tests {
     #[test]
     fn every_name() {
         let fifteen = "H".repeat(15);
-        let full = format!("s{}0", "0".repeat(254));
+        let full = format!("s0000000015{}", "A0000000005".repeat(14));
         let long = "H".repeat(257);
         for (body, expected) in [
             (&long[..], &["an overlong body"][..]),
@@ -149,7 +150,7 @@ mod tests {
             (&format!("s0{fifteen}R"), &["the fifteenth stored command"]),
             (&format!("s0{fifteen}"), &["the fifteenth stored command left of another"]),
             ("s0", &["a missing R"]),
-            (&full, &["a missing R behind 256 bytes"]),
+            (&full, &["a missing R behind 165 bytes"]),
             (&format!("{}g", "H".repeat(255)), &["an unclosed g", "place 256"]),
             ("A5R", &[]),
         ] {

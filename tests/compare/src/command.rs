@@ -10,6 +10,8 @@ pub const FASTEST: u32 = 16_777_216;
 pub const STEEPEST: u32 = 65_000;
 /// The greatest operand of `M` and `G`.
 pub const LONGEST: u32 = 30_000;
+/// E9: "an operand of more than ten digits is refused".
+pub const DIGITS: usize = 10;
 
 /// "two digits, level then input: 01 11 02 12 03 13 04 14".
 #[derive(Clone, Copy, Debug, PartialEq, Eq)]
@@ -195,11 +197,11 @@ fn within(digits: &[u8], least: u32, greatest: u32) -> Result<u32, Misread> {
     }
 }
 
-/// The number that digits write; one too great for 32 bits is the greatest.
-/// No digits write no number.
+/// The number that one to ten digits write; one too great for 32 bits is the
+/// greatest. E9 refuses more digits "before the range of that operand".
 fn number(digits: &[u8]) -> Option<u32> {
     let add = |sum: u32, digit: &u8| sum.saturating_mul(10).saturating_add((digit - b'0').into());
-    (!digits.is_empty()).then(|| digits.iter().fold(0, add))
+    (1..=DIGITS).contains(&digits.len()).then(|| digits.iter().fold(0, add))
 }
 
 /// "a number with exactly one bit set, at most 256"
@@ -232,8 +234,11 @@ mod tests {
 
     fn takes(letter: char, numbers: &[u64]) {
         for number in numbers {
-            for text in [format!("{letter}{number}"), format!("{letter}000{number}")] {
+            for text in [format!("{letter}{number}"), format!("{letter}{number:010}")] {
                 assert!(one(&text).is_ok(), "{text}");
+            }
+            for text in [format!("{letter}{number:011}"), format!("{letter}{number:0200}")] {
+                assert_eq!(one(&text), Err(Misread::Operand), "{text}");
             }
         }
     }
@@ -335,6 +340,8 @@ mod tests {
         assert_eq!(one("G0"), Ok(Command::Close(0)));
         assert_eq!(one("G030000"), Ok(Command::Close(30_000)));
         assert_eq!(one("G30001"), Err(Misread::Operand));
+        assert_eq!(one("G0000000002"), Ok(Command::Close(2)));
+        assert_eq!(one("G00000000002"), Err(Misread::Operand));
     }
 
     #[test]

@@ -4,6 +4,7 @@
 //! bytes."
 
 use crate::line::is_stored_text;
+use crate::old::was_stored_text;
 use crate::BODY;
 
 /// How many slots there are.
@@ -24,6 +25,12 @@ fn start(slot: usize) -> usize {
 /// The text of a slot, if "its entry or body, unused bytes included" keeps
 /// the image's rules.
 pub fn text(image: &Image, slot: usize) -> Option<&[u8]> {
+    held(image, slot).filter(|text| is_stored_text(text))
+}
+
+/// What a slot holds, whatever text that is, if its entry and its unused bytes
+/// keep the rules.
+pub fn held(image: &Image, slot: usize) -> Option<&[u8]> {
     let [s0, s1, l0, l1] = image[4 * slot..][..4] else {
         return None;
     };
@@ -34,13 +41,19 @@ pub fn text(image: &Image, slot: usize) -> Option<&[u8]> {
     let body = &image[start(slot)..][..BODY];
     let (text, unused) = body.split_at_checked(length)?;
     let unused = unused.iter().fold(0, |bits, byte| bits | byte);
-    (unused == 0 && is_stored_text(text)).then_some(text)
+    (unused == 0).then_some(text)
 }
 
 /// "The image is good when every start is that, every length at most 256,
 /// every body passes the check for stored text, and unused bytes are 0."
 pub fn is_good(image: &Image) -> bool {
     (0..SLOTS).all(|slot| text(image, slot).is_some())
+}
+
+/// Whether the image is good but for operands of more than ten digits, which
+/// E9 bears "at start".
+pub fn was_good(image: &Image) -> bool {
+    (0..SLOTS).all(|slot| held(image, slot).is_some_and(was_stored_text))
 }
 
 /// "`s` rewrites one entry and one body".
@@ -82,7 +95,8 @@ mod tests {
         assert_eq!(text(&image, 1), Some(&b"A5"[..]));
         store(&mut image, 15, &[&b"A"[..], &[b'0'; 255]].concat());
         assert_eq!(image[60..64], [64, 15, 0, 1]);
-        assert!(is_good(&image));
+        assert!(was_good(&image) && !is_good(&image));
+        assert_eq!(text(&image, 15), None);
         store(&mut image, 15, b"");
         store(&mut image, 1, b"");
         assert_eq!(image, empty());
@@ -93,7 +107,7 @@ mod tests {
         for place in 0..IMAGE {
             let mut image = empty();
             image[place] ^= 1;
-            assert!(!is_good(&image), "{place}");
+            assert!(!is_good(&image) && !was_good(&image), "{place}");
             let slot = if place < CONTENTS { place / 4 } else { (place - CONTENTS) / BODY };
             for other in 0..SLOTS {
                 assert_eq!(text(&image, other).is_some(), other != slot);

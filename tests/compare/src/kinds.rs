@@ -3,9 +3,12 @@
 
 use std::collections::BTreeMap;
 
-use crate::bench::Bench;
+use crate::bench::{read_hex_field, Bench};
 use crate::causes;
+use crate::command::{Command, DIGITS};
+use crate::digits;
 use crate::handed::Handed;
+use crate::image::{self, Image, SLOTS};
 use crate::speed;
 use crate::turn::{Leg, Wait};
 use crate::unit::Unit;
@@ -174,6 +177,10 @@ const WORDS: &[&str] = &[
 const EVENTS: &[&str] = &[
     "start: idle",
     "start: program 0 runs",
+    "start: endless digits in program 0",
+    "start: endless digits in another program",
+    "start: refused with endless digits in a program",
+    "text: endless digits",
     "frame: a run starts",
     "frame: a line is loaded",
     "frame: the image changes",
@@ -221,6 +228,7 @@ const EVENTS: &[&str] = &[
     "e: a text",
     "e: an empty text",
     "e: stops with 1",
+    "e: endless digits",
     "move: goes on",
     "move: ends",
     "endless: goes on",
@@ -235,6 +243,7 @@ const EVENTS: &[&str] = &[
     "speed line: idle",
     "speed line: obeyed in an endless move",
     "speed line: refused with 3 in an endless move",
+    "speed line: endless digits in an endless move",
     "speed line: refused with 15 in a move",
     "speed line: refused with 15 in a homing",
     "speed line: refused with 15 in a delay",
@@ -258,7 +267,8 @@ pub fn all() -> Vec<String> {
     let events = EVENTS.iter().map(|name| format!("event: {name}"));
     let faults =
         ["line", "frame"].iter().flat_map(|word| causes::NAMES.iter().map(move |name| fault(word, name)));
-    answers.chain(unreadable).chain(events).chain(faults).collect()
+    let digits = digits::NAMES.iter().map(|name| format!("digits: {name}"));
+    answers.chain(unreadable).chain(events).chain(faults).chain(digits).collect()
 }
 
 /// The kind of an operation and its answer, as [`all`] names it.
@@ -424,6 +434,8 @@ pub struct Glance {
     endless_speed: u32,
     last: Option<u8>,
     text_length: usize,
+    /// The slot that an `e` would begin in the next turn.
+    jump: Option<u8>,
     image: u64,
 }
 
@@ -440,6 +452,10 @@ impl Glance {
             endless_speed: unit.endless_speed,
             last: unit.last(),
             text_length: unit.text().len(),
+            jump: match (unit.running, unit.wait, unit.text.command(unit.next)) {
+                (true, Wait::Nothing, Some(Command::Execute(slot))) => Some(slot),
+                _ => None,
+            },
             image: weigh(bench.image()),
         })
     }
@@ -485,7 +501,9 @@ pub fn of_speed(operation: &[u8], kind: &str, before: Option<Glance>) -> Vec<Str
     let names = match &handed.body[..] {
         b"?5" => of_asked_speed(before, handed.sequence),
         body if speed::is_speed_line(body) && handed.sequence.is_none() => {
-            of_speed_line(before.phase, told).into_iter().collect()
+            let endless = told == "3 with data" && before.phase == Phase::Endless && body.len() > 2 + DIGITS;
+            let more = endless.then_some("speed line: endless digits in an endless move");
+            of_speed_line(before.phase, told).into_iter().chain(more).collect()
         }
         _ => Vec::new(),
     };
@@ -517,6 +535,39 @@ fn of_speed_line(phase: Phase, told: &str) -> Option<&'static str> {
         (Phase::Command(_) | Phase::End, "15") => "speed line: refused with 15 between waits",
         _ => return None,
     })
+}
+
+/// The kinds of what came of endless digits, as [`all`] names them, from the
+/// kind of the answer: paper 02, E9.
+pub fn of_digits(operation: &[u8], kind: &str, before: Option<Glance>, bench: &Bench) -> Vec<String> {
+    let operands = digits::names(operation, kind).into_iter().map(|name| format!("digits: {name}"));
+    let stored = of_stored_digits(operation, kind, before, bench);
+    operands.chain(stored.map(|name| format!("event: {name}"))).collect()
+}
+
+fn of_stored_digits(
+    operation: &[u8],
+    kind: &str,
+    before: Option<Glance>,
+    bench: &Bench,
+) -> Option<&'static str> {
+    if kind == "text: bad" {
+        let operation = operation.strip_suffix(b"\r").unwrap_or(operation);
+        let text = read_hex_field(operation.strip_prefix(b"text ")?)?;
+        return digits::are_endless(&text).then_some("text: endless digits");
+    }
+    let image = <&Image>::try_from(bench.image()).ok()?;
+    let endless = |slot| image::held(image, slot).is_some_and(digits::are_endless);
+    let occur = |slot| image::held(image, slot).is_some_and(digits::occur_in);
+    match kind {
+        "start: started" if endless(0) => Some("start: endless digits in program 0"),
+        "start: started" if (1..SLOTS).any(endless) => Some("start: endless digits in another program"),
+        "start: refused image-bad" if (0..SLOTS).any(occur) => {
+            Some("start: refused with endless digits in a program")
+        }
+        "turn: act none" if endless(before?.jump?.into()) => Some("e: endless digits"),
+        _ => None,
+    }
 }
 
 fn of_frame(before: Glance, after: Glance) -> Option<&'static str> {

@@ -1,12 +1,15 @@
 //! One drive's side of the DT protocol, and the host's side, written from
-//! paper 01 ("The work covered and the rules it follows") and the decided
-//! readings of its open points, and from nothing else.
+//! paper 01 ("The work covered and the rules it follows"), the requests of
+//! paper 02 that it knows (E1, E2, E3, E4, E6, E9, E14) and the decided readings
+//! of their open points, and from nothing else.
 //!
-//! The words in quotes in the comments are the paper's. The model is the
+//! The words in quotes in the comments are the papers'. The model is the
 //! judge in a comparison: [`bench`] speaks the tester's language over it,
-//! [`course`] makes turns one after another for it, [`random`] writes scripts in that language, [`kinds`] names what came
-//! back and [`causes`] what a body is refused for, [`shrink`] makes a disagreement short. [`pace`] repeats feed and
-//! turn, to time them.
+//! [`course`] makes turns one after another for it, [`random`] writes scripts
+//! in that language, [`kinds`] names what came back, [`causes`] what a body is
+//! refused for, [`digits`] how long its operands are, from what [`handed`]
+//! finds in an operation, and [`shrink`] makes a disagreement short. [`pace`]
+//! repeats feed and turn, to time them.
 
 pub mod address;
 pub mod command;
@@ -16,6 +19,7 @@ pub mod fault;
 pub mod host;
 pub mod image;
 pub mod line;
+pub mod old;
 pub mod packet;
 pub mod ramp;
 pub mod receiver;
@@ -28,6 +32,7 @@ pub mod unit;
 pub mod bench;
 pub mod causes;
 pub mod course;
+pub mod digits;
 pub mod handed;
 pub mod kinds;
 pub mod pace;

@@ -313,6 +313,28 @@ mod tests {
     }
 
     #[test]
+    fn endless_digits() {
+        for (body, place) in [
+            ("A00000000005R", 1),
+            ("P5A00000000005q", 3),
+            ("P5A99999999999R", 3),
+            ("s3P5A00000000005R", 5),
+            ("s00000000003P5R", 1),
+            ("gG00000000002R", 2),
+            ("V00000000005R", 1),
+            ("b00000009600R", 1),
+            ("e00000000015R", 1),
+        ] {
+            placed(body, Code::Operand, place);
+        }
+        for body in ["A0000000005R", "s0000000003P0000000005R", "gG0000000002R", "b0000009600R"] {
+            idle(body, 0);
+        }
+        placed("q00000000005R", Code::Letter, 1);
+        placed("g00000000005GR", Code::Letter, 2);
+    }
+
+    #[test]
     fn places_of_a_broken_structure() {
         let fifteen = "H".repeat(15);
         for (body, place) in [
@@ -332,7 +354,8 @@ mod tests {
         ] {
             placed(body, Code::Letter, place);
         }
-        placed(&format!("s{}", "0".repeat(255)), Code::Letter, 257);
+        // No good line that is to be stored is longer.
+        placed(&format!("s0000000015{}", "A0000000005".repeat(14)), Code::Letter, 166);
         placed(&format!("{}g", "H".repeat(255)), Code::Letter, 256);
     }
 
@@ -352,7 +375,7 @@ mod tests {
         idle(&"H".repeat(256), 0);
         idle(&format!("{}R", "H".repeat(255)), 0);
         idle(&"H".repeat(257), 2);
-        idle(&format!("A{}5", "0".repeat(254)), 0);
+        idle(&format!("A{}5", "0".repeat(254)), 3);
         idle(&format!("A{}5", "0".repeat(255)), 2);
         idle(&format!("T{}", "0".repeat(256)), 2);
         idle(&format!("A{}", "9".repeat(255)), 3);
@@ -368,7 +391,9 @@ mod tests {
         }
         assert!(is_stored_text("H".repeat(14).as_bytes()));
         assert!(!is_stored_text("H".repeat(15).as_bytes()));
-        assert!(is_stored_text(format!("A{}", "0".repeat(255)).as_bytes()));
-        assert!(!is_stored_text(format!("A{}", "0".repeat(256)).as_bytes()));
+        assert!(is_stored_text("A0000000005".repeat(14).as_bytes()));
+        for digits in [11, 255, 256] {
+            assert!(!is_stored_text(format!("A{}", "0".repeat(digits)).as_bytes()));
+        }
     }
 }

@@ -136,7 +136,8 @@ enum Data {
 
 impl Unit {
     /// A fresh unit. "At start a non-empty program 0 becomes the current text
-    /// and runs; else the current text is empty."
+    /// and runs; else the current text is empty." E9: endless digits "as program
+    /// 0" leave it "idle, the current text empty, holding 1".
     pub fn start(number: u8, image: &[u8]) -> Result<Unit, StartRefusal> {
         if !(1..=16).contains(&number) {
             return Err(StartRefusal::UnitNumber);
@@ -144,12 +145,13 @@ impl Unit {
         let Ok(image) = <&Image>::try_from(image) else {
             return Err(StartRefusal::ImageLength);
         };
-        if !image::is_good(image) {
+        if !image::was_good(image) {
             return Err(StartRefusal::ImageBad);
         }
         let mut unit = Unit::fresh(number);
         match image::text(image, 0) {
-            None | Some([]) => {}
+            None => unit.code = Code::NotFound,
+            Some([]) => {}
             Some(program) => {
                 unit.text.set(program);
                 unit.begin();

@@ -34,18 +34,18 @@ const CHECKS: [f64; 2] = [1.5, 1.5];
 /// Feed and turn: at most so many times the model in time and in instructions, and the most instructions of ours that the gate
 /// lets pass, so that a lost shape is seen at once. A number of ten digits is written without a division, which the model makes.
 const PACE: [(&str, [f64; 2], f64); 12] = [
-    ("feed, short frames, 1 byte a call", [1.4, 1.1], 140.0),
-    ("feed, short frames, 16 bytes a call", [1.1, 1.05], 74.0),
-    ("feed, short frames, 256 bytes a call", [1.1, 1.05], 73.0),
-    ("feed, 200-byte bodies, 1 byte a call", [1.4, 1.1], 138.0),
-    ("feed, 200-byte bodies, 16 bytes a call", [1.1, 1.05], 70.0),
-    ("feed, 200-byte bodies, 256 bytes a call", [1.1, 1.05], 66.0),
-    ("feed, ten-digit answers, 1 byte a call", [4.0, 1.75], 265.0),
-    ("feed, ten-digit answers, a frame a call", [4.0, 2.1], 207.0),
+    ("feed, short frames, 1 byte a call", [1.4, 1.1], 170.0),
+    ("feed, short frames, 16 bytes a call", [1.1, 1.05], 90.0),
+    ("feed, short frames, 256 bytes a call", [1.1, 1.05], 89.0),
+    ("feed, 200-byte bodies, 1 byte a call", [1.4, 1.1], 162.0),
+    ("feed, 200-byte bodies, 16 bytes a call", [1.1, 1.05], 76.0),
+    ("feed, 200-byte bodies, 256 bytes a call", [1.1, 1.05], 71.0),
+    ("feed, ten-digit answers, 1 byte a call", [4.0, 1.75], 305.0),
+    ("feed, ten-digit answers, a frame a call", [4.0, 2.1], 240.0),
     ("turn, idle", [1.3, 1.15], 34.0),
-    ("turn, in a move", [1.3, 1.15], 110.0),
-    ("turn, a command taken", [2.4, 2.3], 225.0),
-    ("turn, a jump", [1.5, 1.5], 2170.0),
+    ("turn, in a move", [1.3, 1.15], 84.0),
+    ("turn, a command taken", [2.4, 2.3], 204.0),
+    ("turn, a jump", [1.5, 1.5], 2320.0),
 ];
 
 const ROUNDS: usize = 15;
@@ -281,9 +281,9 @@ fn calls_rows() -> [Row; 10] {
     ]
 }
 
-/// A stored text of 14 commands in 216 bytes.
+/// A stored text of 14 commands in 128 bytes.
 fn full_text() -> Vec<u8> {
     let numbers = ["A", "P", "D", "M", "z", "V", "L", "m", "h", "o", "J"].iter().zip([1000, 200, 30, 50, 0, 305175, 1000, 25, 10, 1500, 1]);
-    let words: String = numbers.map(|(letter, number)| format!("{letter}{number:018}")).collect();
+    let words: String = numbers.map(|(letter, number)| format!("{letter}{number:010}")).collect();
     format!("gS01{words}G10").into_bytes()
 }

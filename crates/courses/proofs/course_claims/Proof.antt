@@ -2,10 +2,10 @@
 use mathlib.Core.Path.{_≡_, refl}
 use mathlib.Core.List.{_∷_, _++_}
 use Rattle.commands.specs.declared.Command.the-variants.{LoopBegin}
-use Rattle.digits.specs.Operand.{digitRun, valueAfter, operandOf, operandAt}
+use Rattle.digits.specs.Operand.{digitRun, valueAfter, operandOf, operandAt, operandUpTo}
 use Rattle.commands.specs.Table.{table, find, asksOf, commandOf, oneOf, powerIn, exponentOf, within}
-use Rattle.commands.specs.Reading.{readAt}
-use Rattle.lines.specs.Texts.{unplaced, readingIn, readingFrom}
+use Rattle.commands.specs.Reading.{readBy}
+use Rattle.lines.specs.Texts.{unplaced, readingIn, readingBy}
 use Rattle.lines.specs.Examples.{bytes}
 use Rattle.courses.specs.Meaning.{tailOf, courseOf, times, unrolled, cost, courseIn, commandsIn}
 use Rattle.courses.specs.Claims.{outerRound}
@@ -16,11 +16,11 @@ use Rattle.courses.proofs.course_claims.Statement.{statement}
 use Rattle.courses.proofs.course_claims.Tie as tie
 
 example : commandsIn (bytes "gP5gD1G2G3") ≡ 22
-unfolding tailOf courseOf cost courseIn commandsIn bytes unplaced readingIn readingFrom readAt table find asksOf commandOf oneOf powerIn exponentOf within operandAt operandOf digitRun valueAfter
+unfolding tailOf courseOf cost courseIn commandsIn bytes unplaced readingIn readingBy readBy table find asksOf commandOf oneOf powerIn exponentOf within operandUpTo operandAt operandOf digitRun valueAfter
 example = refl
 
 example-run : unrolled (courseIn (bytes "gP5gD1G2G3")) ≡ LoopBegin ∷ (outerRound ++ (outerRound ++ outerRound))
-unfolding tailOf courseOf times unrolled courseIn bytes unplaced readingIn readingFrom readAt table find asksOf commandOf oneOf powerIn exponentOf within operandAt operandOf digitRun valueAfter
+unfolding tailOf courseOf times unrolled courseIn bytes unplaced readingIn readingBy readBy table find asksOf commandOf oneOf powerIn exponentOf within operandUpTo operandAt operandOf digitRun valueAfter
 example-run = refl
 
 returns : tie.Need-returns

@@ -1,6 +1,6 @@
 -- `effects::effect_claims`: each claim is a law. Assumes nothing.
 use Rattle.effects.proofs.BodyLaws.{each-body}
-use Rattle.effects.proofs.TurnLaws.{start-defaults, feeds, serves, idles, idle, waits, commands, answers}
+use Rattle.effects.proofs.TurnLaws.{start-defaults, starts-good, starts-held, feeds, serves, idles, idle, waits, commands, answers}
 use Rattle.effects.proofs.SpeedLaws as speed
 use Rattle.effects.proofs.effect_claims.Statement.{statement}
 use Rattle.effects.proofs.effect_claims.Tie as tie
@@ -8,6 +8,8 @@ use Rattle.effects.proofs.effect_claims.Tie as tie
 returns : tie.Need-returns
 returns c = record {
   defaults = start-defaults;
+  starts-good = starts-good;
+  starts-held = starts-held;
   bodies = each-body;
   feeds = feeds;
   serves = serves;
@@ -16,7 +18,7 @@ returns c = record {
   waits = waits;
   commands = commands;
   answers = answers;
-  speed = record { sets = speed.sets; stays = speed.stays; only = speed.only; told = speed.told };
+  speed = record { sets = speed.sets; stays = speed.stays; only = speed.only; busy = speed.busy; told = speed.told };
 }
 
 pub effect-claims-spec : {M : Type 1} → statement M

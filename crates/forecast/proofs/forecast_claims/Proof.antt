@@ -1,10 +1,10 @@
 -- `forecast::forecast_claims`: each claim is a law, and the examples compute. Assumes nothing.
 use mathlib.Core.Path.{_≡_, refl}
 use Rattle.parts.specs.Parts.{part, same}
-use Rattle.digits.specs.Operand.{digitRun, valueAfter, operandOf, operandAt}
+use Rattle.digits.specs.Operand.{digitRun, valueAfter, operandOf, operandAt, operandUpTo}
 use Rattle.commands.specs.Table.{table, find, asksOf, commandOf, oneOf, powerIn, exponentOf, within}
-use Rattle.commands.specs.Reading.{readAt}
-use Rattle.lines.specs.Texts.{unplaced, readingIn, readingFrom, faultPlaces, fifteenth, storedPlaces, leftmost, lineJudged, storedJudged}
+use Rattle.commands.specs.Reading.{readBy}
+use Rattle.lines.specs.Texts.{unplaced, readingIn, readingBy, faultPlaces, fifteenth, storedPlaces, leftmost, lineJudged, storedBy}
 use Rattle.lines.specs.Bodies.{immediates, immediateIn, bodyOf, endsWithR, textEnd, takenOf, lineOf, lineFault}
 use Rattle.lines.specs.Examples.{bytes}
 use Rattle.courses.specs.Meaning.{tailOf, courseOf, cost, courseIn, commandsIn}
@@ -15,7 +15,7 @@ use Rattle.forecast.proofs.forecast_claims.Statement.{statement}
 use Rattle.forecast.proofs.forecast_claims.Tie as tie
 
 edges : counts examples ≡ given examples
-unfolding examples counts given countOf countText bodyText anyBarred tailOf courseOf cost courseIn commandsIn bytes part lineFault bodyOf same immediates immediateIn endsWithR textEnd takenOf lineOf unplaced readingIn readingFrom faultPlaces fifteenth storedPlaces leftmost lineJudged storedJudged readAt table find asksOf commandOf oneOf powerIn exponentOf within operandAt operandOf digitRun valueAfter
+unfolding examples counts given countOf countText bodyText anyBarred tailOf courseOf cost courseIn commandsIn bytes part lineFault bodyOf same immediates immediateIn endsWithR textEnd takenOf lineOf unplaced readingIn readingBy faultPlaces fifteenth storedPlaces leftmost lineJudged storedBy readBy table find asksOf commandOf oneOf powerIn exponentOf within operandAt operandUpTo operandOf digitRun valueAfter
 edges = refl
 
 returns : tie.Need-returns

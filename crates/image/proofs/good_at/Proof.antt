@@ -6,7 +6,7 @@ use mathlib.Core.Bool.{_&&_}
 use native.Mathlib.Omega.{arith}
 use lib.ListN.{length, take, drop, length-drop}
 use lib.Seq.{take-all}
-use Rattle.lines.specs.Texts.{textGood}
+use Rattle.lines.specs.Texts.{textGoodBy}
 use Rattle.image.specs.Image.{zeros, goodAt}
 use Rattle.image.proofs.SlotLaws.{bad-start, bad-length, good-rest}
 use borrow.Author.Needs.{needs}
@@ -20,7 +20,7 @@ returns : tie.Need-returns
 returns c =
     let w = c .before in
     let a = w .before .before .before .args in
-    bad-start (a .start) (a .entry .now) (a .body .now) (λ q. c .if1 .taken (w .word-at .ensures ∙ q))
+    bad-start (a .most) (a .start) (a .entry .now) (a .body .now) (λ q. c .if1 .taken (w .word-at .ensures ∙ q))
 
 word-at-requires-2 : tie.Need-word-at-requires-2
 word-at-requires-2 c κs = search needs
@@ -30,19 +30,19 @@ returns-2 c =
     let v = c .before in
     let w = v .before .before in
     let a = w .before .before .before .args in
-    bad-length (a .start) (a .entry .now) (a .body .now) (omega (arith, v .word-at2 .ensures)) (sym (w .word-at .ensures) ∙ v .before .if1 .left)
+    bad-length (a .most) (a .start) (a .entry .now) (a .body .now) (omega (arith, v .word-at2 .ensures)) (sym (w .word-at .ensures) ∙ v .before .if1 .left)
 
-sub-check-text : tie.Need-sub-check-text
-sub-check-text c = search needs
+sub-check-text-by : tie.Need-sub-check-text-by
+sub-check-text-by c = search needs
 
-part-check-text-start : tie.Need-part-check-text-start
-part-check-text-start c = search needs
+part-check-text-by-start : tie.Need-part-check-text-by-start
+part-check-text-by-start c = search needs
 
-part-check-text-end : tie.Need-part-check-text-end
-part-check-text-end c = search needs
+part-check-text-by-end : tie.Need-part-check-text-by-end
+part-check-text-by-end c = search needs
 
-check-text-requires : tie.Need-check-text-requires
-check-text-requires c κs = search needs
+check-text-by-requires : tie.Need-check-text-by-requires
+check-text-by-requires c κs = search needs
 
 sub-all-zero : tie.Need-sub-all-zero
 sub-all-zero c = search needs
@@ -58,22 +58,22 @@ all-zero-requires c κs = search needs
 
 -- the text is as long as the entry says
 rest : (c : tie.Else2) → let v = c .before in let a = v .before .before .before .before .before .args in
-    goodAt (a .start) (a .entry .now) (a .body .now) ≡ textGood (take (v .word-at2 .result) (a .body .now)) && zeros (drop (v .word-at2 .result) (a .body .now))
+    goodAt (a .most) (a .start) (a .entry .now) (a .body .now) ≡ textGoodBy (a .most) (take (v .word-at2 .result) (a .body .now)) && zeros (drop (v .word-at2 .result) (a .body .now))
 rest c =
     let v = c .before in
     let w = v .before .before in
     let a = w .before .before .before .args in
     rw
     (v .word-at2 .ensures)
-    (good-rest (a .start) (a .entry .now) (a .body .now) (sym (w .word-at .ensures) ∙ v .before .if1 .left) (omega (arith, v .word-at2 .ensures)))
+    (good-rest (a .most) (a .start) (a .entry .now) (a .body .now) (sym (w .word-at .ensures) ∙ v .before .if1 .left) (omega (arith, v .word-at2 .ensures)))
 
 -- what is checked is the text
-judged : (c : tie.After-check-text) → let v = c .before .before .before in
-    textGood (take (v .word-at2 .result) (v .before .before .before .before .before .args .body .now)) ≡ c .check-text .result
+judged : (c : tie.After-check-text-by) → let v = c .before .before .before in
+    textGoodBy (v .before .before .before .before .before .args .most) (take (v .word-at2 .result) (v .before .before .before .before .before .args .body .now)) ≡ c .check-text-by .result
 judged c =
     let n = c .before .before .before .word-at2 .result in
     let z : n ≡ n - 0 = omega arith in
-    rw z (sym (c .check-text .ensures))
+    rw z (sym (c .check-text-by .ensures))
 
 returns-3 : tie.Need-returns-3
 returns-3 c =
@@ -97,10 +97,10 @@ good-at-spec =
     returns
     word-at-requires-2
     returns-2
-    sub-check-text
-    part-check-text-start
-    part-check-text-end
-    check-text-requires
+    sub-check-text-by
+    part-check-text-by-start
+    part-check-text-by-end
+    check-text-by-requires
     sub-all-zero
     part-all-zero-start
     part-all-zero-end

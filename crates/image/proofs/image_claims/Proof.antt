@@ -2,7 +2,7 @@
 -- Assumes nothing.
 use mathlib.Core.Path.{refl}
 use Rattle.image.proofs.HeldLaws.{text-passes, text-fits}
-use Rattle.image.proofs.CallLaws.{good-means, good-when}
+use Rattle.image.proofs.CallLaws.{good-means, good-when, slot-now, good-before, older-means}
 use Rattle.image.proofs.ToldLaws.{told-by-texts}
 use Rattle.image.proofs.StoreLaws.{stores, store-empty}
 use Rattle.image.proofs.ClearLaws.{clears}
@@ -15,6 +15,9 @@ returns c = record {
   whole = refl;
   good-means = good-means;
   good-when = good-when;
+  slot-now = slot-now;
+  good-before = good-before;
+  older-means = older-means;
   texts-pass = text-passes;
   texts-fit = text-fits;
   told-by-texts = told-by-texts;

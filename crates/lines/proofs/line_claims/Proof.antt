@@ -3,13 +3,13 @@ use mathlib.Core.Path.{_≡_, refl, sym, _∙_}
 use mathlib.Core.List.{[]}
 use mathlib.Core.Bool.{true}
 use Rattle.parts.specs.Parts.{same}
-use Rattle.digits.specs.Operand.{digitRun, valueAfter, operandOf, operandAt}
+use Rattle.digits.specs.Operand.{digitRun, valueAfter, operandOf, operandAt, operandUpTo}
 use Rattle.commands.specs.Table.{table, find, asksOf, commandOf, oneOf, powerIn, exponentOf, within}
-use Rattle.commands.specs.Reading.{readAt}
+use Rattle.commands.specs.Reading.{readBy}
 use Rattle.commands.proofs.ReadingLaws.{read-step}
-use Rattle.lines.specs.Texts.{unplaced, readingIn, readingFrom, faultPlaces, fifteenth, storedPlaces, leftmost, lineJudged, storedJudged}
+use Rattle.lines.specs.Texts.{unplaced, readingIn, readingBy, faultPlaces, fifteenth, storedPlaces, leftmost, lineJudged, storedBy, textGoodBy}
 use Rattle.lines.specs.Bodies.{immediates, immediateIn, bodyOf, endsWithR, textEnd, takenOf, lineOf, lineFault, lineCode}
-use Rattle.lines.specs.Examples.{bytes, examples, each, operands, code-each, judged}
+use Rattle.lines.specs.Examples.{bytes, examples, each, operands, code-each, judged, many, olders, checked-each}
 use Rattle.lines.proofs.PlaceLaws.{places-none, stored-none, none-nil, nil-none}
 use Rattle.lines.proofs.TextLaws.{reading-law}
 use Rattle.lines.proofs.LoopLaws.{lawful, at-most-four, enclosed-by}
@@ -18,16 +18,21 @@ use Rattle.lines.proofs.ListLaws.{list-law, list-back, written-spells, 
 use Rattle.lines.proofs.TakenLaws.{stored, text-checked, held, one-or-more}
 use Rattle.lines.proofs.FaultLaws.{leftmost-is, place-there, place-none, place-most, over-long}
 use Rattle.lines.proofs.BeforeLaws.{because}
+use Rattle.lines.proofs.FewLaws.{taken-few, checked-few, good-now, older-most}
 use Rattle.lines.proofs.SpellLaws.{taken-spelled, reads-spelled}
 use Rattle.lines.proofs.line_claims.Statement.{statement}
 use Rattle.lines.proofs.line_claims.Tie as tie
 
 edges : each examples ≡ true
-unfolding examples each bytes lineFault bodyOf same immediates immediateIn endsWithR textEnd takenOf lineOf readingIn readingFrom unplaced faultPlaces fifteenth storedPlaces leftmost lineJudged storedJudged readAt table find asksOf commandOf oneOf powerIn exponentOf within operandAt operandOf digitRun valueAfter
+unfolding examples each bytes many lineFault bodyOf same immediates immediateIn endsWithR textEnd takenOf lineOf readingIn readingBy unplaced faultPlaces fifteenth storedPlaces leftmost lineJudged storedBy readBy table find asksOf commandOf oneOf powerIn exponentOf within operandUpTo operandAt operandOf digitRun valueAfter
 edges = refl
 
+older-edges : checked-each olders ≡ true
+unfolding olders checked-each bytes many textGoodBy storedBy readingIn readingBy unplaced faultPlaces fifteenth storedPlaces leftmost readBy table find asksOf commandOf oneOf powerIn exponentOf within operandUpTo operandAt operandOf digitRun valueAfter
+older-edges = refl
+
 ranges : judged operands ≡ true
-unfolding operands code-each judged bytes lineCode lineFault bodyOf same immediates immediateIn endsWithR textEnd takenOf lineOf readingIn readingFrom unplaced faultPlaces fifteenth storedPlaces leftmost lineJudged storedJudged readAt table find asksOf commandOf oneOf powerIn exponentOf within operandAt operandOf digitRun valueAfter
+unfolding operands code-each judged bytes lineCode lineFault bodyOf same immediates immediateIn endsWithR textEnd takenOf lineOf readingIn readingBy unplaced faultPlaces fifteenth storedPlaces leftmost lineJudged storedBy readBy table find asksOf commandOf oneOf powerIn exponentOf within operandUpTo operandAt operandOf digitRun valueAfter
 ranges = refl
 
 returns : tie.Need-returns
@@ -38,6 +43,10 @@ returns c = record {
   spelled-taken = λ w. spelled-taken (w .short) (w .spells) (w .no-fault);
   reads-spelled = reads-spelled;
   taken-spelled = taken-spelled;
+  taken-few = taken-few;
+  checked-few = checked-few;
+  good-now = good-now;
+  older-most = older-most;
   codes = codes;
   from-the-left = reading-law;
   no-place = λ cs. (λ e. sym (places-none [] cs) ∙ none-nil _ e, λ e. nil-none _ (places-none [] cs ∙ e));
@@ -57,6 +66,7 @@ returns c = record {
   enclosed-by = enclosed-by;
   next-place = λ t at c n e. read-step t at e;
   edges = edges;
+  older-edges = older-edges;
   ranges = ranges;
 }
 

@@ -93,14 +93,30 @@ impl Lines<'_> {
         body
     }
 
-    /// A body of about 256 bytes whose one fault stands at its end, or is that
-    /// it has no `R`.
+    /// A slot and 14 commands of ten digits, 165 bytes, and no `R`; at times of
+    /// eleven digits somewhere.
+    fn widest(&mut self) -> Vec<u8> {
+        let mut body = format!("s{:010}", self.slot()).into_bytes();
+        for _ in 0..14 {
+            let letter = self.random.pick(b"APDzZVLMe");
+            body.push(letter);
+            body.extend(format!("{:010}", self.operand(letter)).bytes());
+        }
+        if self.random.chance(25) {
+            let place = 11 * self.random.under(15) + 1;
+            body.insert(place, b'0');
+        }
+        body
+    }
+
+    /// A body of about 256 bytes whose one fault stands at its end, or a long
+    /// one that is to be stored and has no `R`.
     fn full(&mut self) -> Vec<u8> {
         let length = self.random.pick(&[99, 100, 255, 256, 256, 256, 256]);
-        if self.random.chance(40) {
-            let slot = self.slot().to_string();
-            let zeros = "0".repeat(length - 1 - slot.len());
-            return format!("s{zeros}{slot}").into_bytes();
+        match self.random.below(10) {
+            0..=2 => return self.widest(),
+            3 => return format!("s3{}", "H".repeat(length - 2)).into_bytes(),
+            _ => {}
         }
         let end = self.random.pick(&["q", "A", "g", "G", "S01", "X", "V0", "RR", "gGG", "S02R", "gR"]);
         ("H".repeat(length - end.len()) + end).into_bytes()

@@ -2,6 +2,7 @@
 
 use crate::command::FARTHEST;
 use crate::image::{self, Image, IMAGE, SLOTS};
+use crate::random::endless::widen;
 use crate::random::Random;
 
 /// Letters of the commands that stand alone, the telling ones more often.
@@ -52,6 +53,14 @@ const EDGES: &[&str] = &[
     "s16R",
     "s015R",
     "s0000000000R",
+    "s00000000000R",
+    "A0000000005R",
+    "A00000000005R",
+    "gG00000000002R",
+    "s1A00000000005R",
+    "s00000000001A5R",
+    "H00000000002R",
+    "q00000000005R",
     "s4294967296R",
     "A4294967297R",
     "A18446744073709551617R",
@@ -145,11 +154,11 @@ impl Lines<'_> {
     }
 
     fn zeros(&mut self, number: u32) -> Vec<u8> {
-        let zeros = if self.random.chance(6) { 1 + self.random.under(12) } else { 0 };
-        format!("{}{number}", "0".repeat(zeros)).into_bytes()
+        let width = if self.random.chance(8) { self.random.pick(&[2, 4, 8, 9, 9, 10, 10, 10]) } else { 1 };
+        format!("{number:0width$}").into_bytes()
     }
 
-    fn operand(&mut self, letter: u8) -> u32 {
+    pub fn operand(&mut self, letter: u8) -> u32 {
         match letter {
             b'A' => self.place(),
             b'P' | b'D' => self.way(letter),
@@ -259,11 +268,12 @@ impl Lines<'_> {
             b'e' | b's' => &["16", "15", "256", "20"],
             _ => &["2147483648", "2147483647", "4294967295", "3000000000"],
         };
-        match self.random.below(10) {
+        match self.random.below(13) {
             0..=5 => self.random.pick(edges).as_bytes().to_vec(),
             6..=7 => Vec::new(),
             8 => self.random.pick(&["4294967296", "4294967297", "18446744073709551616"]).as_bytes().to_vec(),
-            _ => self.random.bits().to_string().into_bytes(),
+            9 => self.random.bits().to_string().into_bytes(),
+            _ => self.endless_digits(letter),
         }
     }
 
@@ -359,12 +369,13 @@ impl Lines<'_> {
 
     /// A body that no drive takes, or only just.
     pub fn odd(&mut self) -> Vec<u8> {
-        match self.random.below(14) {
+        match self.random.below(16) {
             0..=1 => self.random.pick(NOT_IMMEDIATE).as_bytes().to_vec(),
             2..=3 => self.random.pick(EDGES).as_bytes().to_vec(),
             4 => self.noise(12),
             5 => self.long(),
             6..=9 => self.faulty(),
+            10..=11 => self.endless_line(),
             _ => {
                 let run = self.random.chance(80);
                 let line = if self.random.chance(70) { self.line(run) } else { self.storing() };
@@ -388,7 +399,7 @@ impl Lines<'_> {
 
     /// Any body.
     pub fn body(&mut self) -> Vec<u8> {
-        match self.random.below(22) {
+        match self.random.below(24) {
             0..=5 => self.line(true),
             6..=7 => self.line(false),
             8..=9 => self.storing(),
@@ -396,7 +407,8 @@ impl Lines<'_> {
             11 => self.random.pick(&["R", "X"]).as_bytes().to_vec(),
             12 => self.long(),
             13..=15 => self.single(),
-            16..=17 => self.faulty(),
+            16..=18 => self.faulty(),
+            19..=20 => self.endless_line(),
             _ => self.odd(),
         }
     }
@@ -444,9 +456,13 @@ impl Lines<'_> {
     pub fn long(&mut self) -> Vec<u8> {
         let length = self.random.pick(&[200, 250, 254, 255, 256, 256, 257, 257, 258, 300, 512, 700]);
         let run = self.random.chance(70);
-        let body = match self.random.below(6) {
-            0..=2 => self.line(run),
+        let body = match self.random.below(7) {
+            0..=2 => {
+                let line = self.line(run);
+                return fill(line, length);
+            }
             3 => self.storing(),
+            5 => self.line(run),
             4 => {
                 let short = self.random.pick(&["H", "z7", "gG2", "S11M0", "V1", "A"]);
                 let mut body = short.repeat(length).into_bytes();
@@ -459,8 +475,8 @@ impl Lines<'_> {
         self.pad(body, length)
     }
 
-    /// The body made longer by leading zeros of its operands.
-    fn pad(&mut self, mut body: Vec<u8>, length: usize) -> Vec<u8> {
+    /// The body made longer by leading zeros of one of its operands.
+    pub fn pad(&mut self, mut body: Vec<u8>, length: usize) -> Vec<u8> {
         let takes_zeros = |pair: &[u8]| b"APDzZVLfFmhjoJbMGes".contains(&pair[0]) && pair[1].is_ascii_digit();
         let places: Vec<usize> = body
             .windows(2)
@@ -477,22 +493,21 @@ impl Lines<'_> {
         body
     }
 
-    /// A good stored text, at times of 256 bytes.
+    /// A good stored text, at times of ten digits an operand.
     pub fn stored_text(&mut self) -> Vec<u8> {
         let count = if self.random.chance(10) { 14 } else { self.random.under(8) };
-        let words = self.words(count);
-        let text = written(&words, false);
-        match self.random.below(10) {
-            0 => self.pad(text, 256),
-            1 => self.pad(text, 255),
-            _ => text,
+        let mut words = self.words(count);
+        if self.random.chance(15) {
+            widen(&mut words);
         }
+        written(&words, false)
     }
 
     /// A text that may be stored or not.
     pub fn text(&mut self) -> Vec<u8> {
-        match self.random.below(10) {
+        match self.random.below(12) {
             0..=4 => self.stored_text(),
+            10..=11 => self.endless_text(),
             5 => {
                 let words = self.words(15);
                 written(&words, false)
@@ -587,6 +602,21 @@ impl Lines<'_> {
             (_, digits) => digits.to_vec(),
         }
     }
+}
+
+/// The body made longer by commands before it, with no operand of more than ten
+/// digits.
+fn fill(body: Vec<u8>, length: usize) -> Vec<u8> {
+    let mut filled = Vec::new();
+    let mut left = length.saturating_sub(body.len());
+    while left > 0 {
+        // `M` and its digits: 2 to 11 bytes, and never one left.
+        let size = if left == 12 { 10 } else { left.min(11) };
+        filled.extend(if size == 1 { b"H".to_vec() } else { [&b"M"[..], &vec![b'0'; size - 1]].concat() });
+        left -= size;
+    }
+    filled.extend(body);
+    filled
 }
 
 /// The words one after another, then perhaps `R`.

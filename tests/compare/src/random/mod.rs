@@ -1,5 +1,6 @@
 //! Random scripts in the bench's language, the same for the same seed.
 
+mod endless;
 mod faulty;
 mod lines;
 mod rare;

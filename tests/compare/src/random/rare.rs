@@ -30,7 +30,7 @@ pub struct Rare<'a> {
 impl Rare<'_> {
     /// One of them.
     pub fn script(&mut self) -> Script {
-        match self.below(144) {
+        match self.below(164) {
             0..=19 => self.deep_loops(),
             20 => self.many_times(),
             21..=23 => self.long_feed(),
@@ -45,6 +45,7 @@ impl Rare<'_> {
             114 => self.image_length(),
             115..=126 => self.refused(),
             127..=142 => self.turning(),
+            143..=162 => self.stored_earlier(),
             _ if self.below(3) == 0 => self.longest_body(),
             _ => vec![b"help".to_vec()],
         }
@@ -310,6 +311,30 @@ impl Rare<'_> {
         let turns = ["turn 15 1 0", "turn 13 1 0", "turn 15 1 0", "turn 15 1 0", "unit"];
         script.extend(turns.iter().map(|&operation| operation.into()));
         script
+    }
+
+    /// An image with endless digits in a program, started and jumped to.
+    fn stored_earlier(&mut self) -> Script {
+        let slot = if self.below(3) == 0 { 0 } else { self.lines.random.under(image::SLOTS) };
+        let text = self.lines.endless_text();
+        let mut bytes = if self.below(2) == 0 { image::empty() } else { self.lines.image() };
+        image::store(&mut bytes, slot, &text);
+        let first = self.pick(&["Q", "$", "X", "R", "T", "T", "?0"]);
+        let turn = b"turn 15 1 0".to_vec();
+        vec![
+            with_hex("image", &bytes),
+            format!("start {}", self.number).into_bytes(),
+            b"unit".to_vec(),
+            self.frame(first.as_bytes()),
+            self.frame(format!("z5e{slot}R").as_bytes()),
+            turn.clone(),
+            turn.clone(),
+            turn,
+            b"unit".to_vec(),
+            with_hex("text", &text),
+            self.frame(&[b"s3", &text[..], b"R"].concat()),
+            b"image empty".to_vec(),
+        ]
     }
 
     /// An image of another length, from 512 on.

@@ -247,6 +247,7 @@ impl Round {
         let kind = kinds::of_answer(&operation, &answer);
         let mut events = kinds::of_fault(&operation, &kind);
         events.extend(kinds::of_speed(&operation, &kind, before));
+        events.extend(kinds::of_digits(&operation, &kind, before, &self.bench));
         events.extend(kinds::of_event(&operation, &answer, before, after));
         Step { operation, answer, begins, kind, events }
     }
@@ -275,7 +276,8 @@ impl Round {
         self.queue.push_back(format!("room {PACKET}").into_bytes());
         self.queue.push_back(self.start_number());
         if self.random.chance(60) {
-            let image = self.lines().image();
+            let old = self.random.chance(15);
+            let image = if old { self.lines().old_image() } else { self.lines().image() };
             self.queue.push_back(with_hex("image", &image));
             self.queue.push_back(self.start_number());
         }
@@ -705,7 +707,8 @@ impl Round {
                 }
                 with_hex("image", &bytes)
             }
-            3..=8 => with_hex("image", &self.lines().image()),
+            3..=7 => with_hex("image", &self.lines().image()),
+            8 => with_hex("image", &self.lines().old_image()),
             _ => self.damaged_image(),
         }
     }

@@ -8,5 +8,6 @@ pub start-unit-spec : {M : Type 1} → statement M
 unfolding freshUnit
 start-unit-spec =
     tie.close
-    (tie.spec (λ c κs. search needs) (λ c κs. search needs) (λ c κs. search needs) (λ c κs. search needs)
-    (λ c body. rw (c .begin-with .ensures, c .before .fresh .ensures, c .before .before .put-text .ensures, c .before .before .before .before .slot-text .ensures)))
+    (tie.spec (λ c κs. search needs) (λ c κs. search needs) (λ c κs. search needs) (λ c κs. search needs) (λ c κs. search needs)
+    (λ c body.
+    rw (c .begin-on .ensures, c .before .slot-good .ensures, c .before .before .fresh .ensures, c .before .before .before .put-text .ensures, c .before .before .before .before .before .slot-text .ensures)))

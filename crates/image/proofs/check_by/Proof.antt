@@ -1,4 +1,4 @@
--- `image::check_image` meets its contract: the slots seen are good (the invariant), and one bad slot makes a bad image (`slots-bad`).
+-- `image::check_by` meets its contract: the slots seen are good (the invariant), and one bad slot makes a bad image (`slots-bad`).
 -- Assumes nothing.
 use Prim.Native.Nat.{_≤_, _-_, zero-le}
 use mathlib.Core.Path.{_≡_, refl, sym, _∙_}
@@ -8,36 +8,37 @@ use native.Mathlib.Omega.{arith}
 use lib.ListN.{length}
 use borrow.Author.Needs.{needs}
 use borrow.Author.Tests.{eq-eqb, ne-eqb, not-true, not-false}
-use Rattle.image.specs.Image.{imageBytes, slots, slotsGood}
-use Rattle.image.specs.Calls.{checkedOf}
+use Rattle.image.specs.Image.{imageBytes, slots, slotsBy}
+use Rattle.image.specs.Calls.{checkedBy}
 use Rattle.image.proofs.SlotLaws.{slots-bad}
-use Rattle.image.proofs.check_image.Statement.{statement}
-use Rattle.image.proofs.check_image.Tie as tie
+use Rattle.image.proofs.check_by.Statement.{statement}
+use Rattle.image.proofs.check_by.Tie as tie
 
 abbrev Inv-loop : tie.InvT-loop
-Inv-loop image slot₀ slot = (slot ≤ slots) × (slotsGood image slot ≡ true)
+Inv-loop image most slot₀ slot = (slot ≤ slots) × (slotsBy most image slot ≡ true)
 
 abbrev μ-loop : tie.MeasureT-loop
-μ-loop image slot₀ slot = slots - slot
+μ-loop image most slot₀ slot = slots - slot
 
 returns : tie.Need-returns Inv-loop μ-loop
-unfolding checkedOf
+unfolding checkedBy
 returns c = rw (ne-eqb _ imageBytes (c .if1 .taken))
 
 loop-holds : tie.Need-loop-holds Inv-loop μ-loop
-unfolding slotsGood
+unfolding slotsBy
 loop-holds c = (zero-le, refl)
 
-slot-good-requires : tie.Need-slot-good-requires Inv-loop μ-loop
-slot-good-requires c κs = search needs
+slot-by-requires : tie.Need-slot-by-requires Inv-loop μ-loop
+slot-by-requires c κs = search needs
 
 returns-2 : tie.Need-returns-2 Inv-loop μ-loop
-unfolding checkedOf
+unfolding checkedBy
 returns-2 c =
     let g = c .before in
     let l = g .before .before in
     let image = l .before .before .before .args .image .now in
-    let bad = slots-bad image (l .loop .slot) slots (omega arith) (sym (g .slot-good .ensures) ∙ not-true _ (c .if2 .taken)) in
+    let most = l .before .before .before .args .most in
+    let bad = slots-bad most image (l .loop .slot) slots (omega arith) (sym (g .slot-by .ensures) ∙ not-true _ (c .if2 .taken)) in
     rw (eq-eqb (length image) imageBytes (l .before .if1 .left), bad)
 
 add-slot : tie.Need-add-slot Inv-loop μ-loop
@@ -47,29 +48,29 @@ loop-less : tie.Need-loop-less Inv-loop μ-loop
 loop-less c = search needs
 
 loop-again : tie.Need-loop-again Inv-loop μ-loop
-unfolding slotsGood
+unfolding slotsBy
 loop-again c =
     let g = c .before in
     let l = g .before .before in
-    (omega arith, rw (add-one, l .loop .inv .1, sym (g .slot-good .ensures) ∙ not-false _ (c .if2 .left)))
+    (omega arith, rw (add-one, l .loop .inv .1, sym (g .slot-by .ensures) ∙ not-false _ (c .if2 .left)))
 
 returns-3 : tie.Need-returns-3 Inv-loop μ-loop
-unfolding checkedOf
+unfolding checkedBy
 returns-3 c =
     let l = c .before in
     let image = l .before .before .before .args .image .now in
     let e : l .loop .slot ≡ slots = omega arith in
     rw (eq-eqb (length image) imageBytes (l .before .if1 .left), ← e, l .loop .inv .1)
 
-pub check-image-spec : {M : Type 1} → statement M
-check-image-spec =
+pub check-by-spec : {M : Type 1} → statement M
+check-by-spec =
     tie.close
     (tie.spec
     Inv-loop
     μ-loop
     returns
     loop-holds
-    slot-good-requires
+    slot-by-requires
     returns-2
     add-slot
     loop-less
