@@ -26,13 +26,17 @@ carriageReturn = 13
 abbrev pub lineFeed : ℕ
 lineFeed = 10
 
+-- a packet of either framing: its first byte and its tail stand around "`0`, status, data"
+abbrev pub frameOf : ℕ → List ℕ → ℕ → List ℕ → List ℕ
+frameOf start back status bytes = start ∷ hostAddress ∷ status ∷ (bytes ++ back)
+
 -- 03, CR, LF
 abbrev pub tail : List ℕ
 tail = endOfText ∷ carriageReturn ∷ lineFeed ∷ []
 
 -- "`/`, `0`, status, data, 03, CR, LF"
 unfoldable pub packet : ℕ → List ℕ → List ℕ
-packet status bytes = slash ∷ hostAddress ∷ status ∷ (bytes ++ tail)
+packet status bytes = frameOf slash tail status bytes
 
 -- three bytes stand before the data, three behind it
 abbrev pub dataAt : ℕ

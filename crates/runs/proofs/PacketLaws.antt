@@ -15,7 +15,7 @@ use Rattle.digits.specs.Operand.{widest}
 use Rattle.answers.specs.Packet.{statusOf, mostData, packetBytes}
 use Rattle.answers.specs.Reading.{allPrintable, goodData}
 use Rattle.answers.proofs.ReadBack.{reads-back, number-good}
-use Rattle.answers.proofs.OemLaws.{reads-back-oem}
+use Rattle.answers.proofs.Framing.{plain, oem}
 use Rattle.frames.specs.declared.Framing.{Framing}
 use Rattle.turns.specs.declared.Core.{Core}
 use Rattle.turns.specs.Turns.{started, ended}
@@ -109,8 +109,8 @@ answer-most g o text t =
 answer-reads : (g : Framing) (o : Obeyed) (text : List ℕ) → Tellable o text
     → ReadIn g (answerTo g o text) (not (o .core .running)) (o .code) (dataOf (o .tell) (o .core .flow .length) text)
 unfolding answerTo
-answer-reads Framing.Plain o text t = reads-back (not (o .core .running)) (o .code) (dataOf (o .tell) (o .core .flow .length) text) (t .0)
-answer-reads (Framing.Oem q) o text t = reads-back-oem (not (o .core .running)) (o .code) (dataOf (o .tell) (o .core .flow .length) text) (t .0)
+answer-reads Framing.Plain o text t = reads-back plain (not (o .core .running)) (o .code) (dataOf (o .tell) (o .core .flow .length) text) (t .0)
+answer-reads (Framing.Oem q) o text t = reads-back oem (not (o .core .running)) (o .code) (dataOf (o .tell) (o .core .flow .length) text) (t .0)
 
 module _ (u : Drive) (bytes image buffer : List ℕ) (a : Answers u bytes image buffer) where
   abbrev left : List ℕ

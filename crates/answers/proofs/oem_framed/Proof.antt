@@ -4,15 +4,15 @@ use borrow.Author.Needs.{needs}
 use native.Mathlib.Omega.{arith}
 use native.Mathlib.Nat.{add-zero}
 use Rattle.answers.specs.Oem.{oemFramed, oemTail}
-use Rattle.answers.proofs.Framing.{fails}
-use Rattle.answers.proofs.OemLaws.{oem-framed-long, oem-framed-first, oem-framed-second, oem-framed-last, by-sum}
+use Rattle.answers.proofs.Framing.{fails, oem, framed-long, framed-first, framed-second, framed-last}
+use Rattle.answers.proofs.OemLaws.{by-sum}
 use Rattle.answers.proofs.oem_framed.Statement.{statement}
 use Rattle.answers.proofs.oem_framed.Tie as tie
 
 returns : tie.Need-returns
 returns c =
     let s = c .before .before .args .packet .now in
-    fails (oemFramed s) (λ f. omega (arith, oem-framed-long s f))
+    fails (oemFramed s) (λ f. omega (arith, framed-long oem s f))
 
 shared-slice-read-if2 : tie.Need-shared-slice-read-if2
 shared-slice-read-if2 c = search needs
@@ -20,7 +20,7 @@ shared-slice-read-if2 c = search needs
 returns-2 : tie.Need-returns-2
 returns-2 c =
     let s = c .before .before .before .before .args .packet .now in
-    fails (oemFramed s) (λ f. c .if2 .taken (oem-framed-first s f))
+    fails (oemFramed s) (λ f. c .if2 .taken (framed-first oem s f))
 
 shared-slice-read-if3 : tie.Need-shared-slice-read-if3
 shared-slice-read-if3 c = search needs
@@ -28,7 +28,7 @@ shared-slice-read-if3 c = search needs
 returns-3 : tie.Need-returns-3
 returns-3 c =
     let s = c .before .before .before .before .before .before .args .packet .now in
-    fails (oemFramed s) (λ f. c .if3 .taken (oem-framed-second s f))
+    fails (oemFramed s) (λ f. c .if3 .taken (framed-second oem s f))
 
 sub-end : tie.Need-sub-end
 sub-end c = search needs
@@ -40,7 +40,7 @@ returns-4 : tie.Need-returns-4
 unfolding oemTail
 returns-4 c =
     let s = c .before .before .before .before .before .before .before .before .args .packet .now in
-    fails (oemFramed s) (λ f. c .if4 .taken (rw add-zero at (oem-framed-last s f 0)))
+    fails (oemFramed s) (λ f. c .if4 .taken (rw add-zero at (framed-last oem s f 0)))
 
 add-result : tie.Need-add-result
 add-result c = search needs
