@@ -3,13 +3,13 @@
 -- Assumes nothing.
 use Prim.Native.Nat.{ℕ, zero, suc, _+_, _-_, _≤_, _<_}
 use mathlib.Core.Path.{_≡_, refl, sym, ap, subst, _∙_}
-use mathlib.Core.List.{List, [], _∷_, _++_, append-assoc}
+use mathlib.Core.List.{List, [], _∷_, _++_}
 use mathlib.Core.Bool.{Bool, true, false, cond, not, and-eq-true-iff}
 use native.Mathlib.Omega.{arith}
 use native.Mathlib.Numerals.{add-one}
-use lib.ListN.{length, getD, take, drop, replicate, length-append, length-drop, length-replicate}
+use lib.ListN.{length, getD, drop, replicate, length-append, length-drop, length-replicate}
 use lib.Dec.{eqb, leb, ltb}
-use lib.Seq.{drop-drop, getD-drop, take-at, take-add, drop-at, drop-cons, length-take-le}
+use lib.Seq.{drop-drop, getD-drop, take-at, drop-cons}
 use borrow.Author.Tests.{le-leb, lt-ltb, leb-true, eqb-true, ltb-true, not-true}
 use Rattle.parts.specs.Parts.{part}
 use Rattle.digits.specs.declared.Operand.{Operand}
@@ -36,7 +36,6 @@ use Rattle.commands.specs.Table.{top, Row, table, find, asksOf, commandO
 use Rattle.commands.specs.Reading.{badOperand, required, orElse, letterAt, readBy, readAt}
 use Rattle.commands.specs.Writing.{spellingOf, bytesOf, spelled as spelledOf, permits, permitted, inRange, zeroed, SpellsCommand, full, bareG, bareH, follows, CommandAt}
 use Rattle.commands.specs.Claims.{apart}
-use Rattle.commands.proofs.ReadingLaws.{read-step}
 use Rattle.commands.proofs.TableLaws.{each, each-one, letters, unknown}
 use Rattle.commands.proofs.RangeLaws.{Uncounted, input-most, within-most, uncounted, two-digits, input-digits, within-two}
 
@@ -493,45 +492,3 @@ spelling-most c b bareG = omega arith
 spelling-most c b bareH = omega arith
 
 -- ---- the same command elsewhere
-
--- bytes that read as a command read so in any text, where what follows them may follow
-pub read-moved : (s t rest : List ℕ) (at to : ℕ) (c : Command) (next : ℕ) → readAt s at ≡ At c next → drop to t ≡ part s at (next - at) ++ rest
-    → follows (spellingOf c) rest → readAt t to ≡ At c (to + (next - at))
-unfolding part
-read-moved s t rest at to c next e f g =
-    let k = spells-as s at c next e in
-    let p = read-step s at e in
-    let long : length (take (next - at) (drop at s)) ≡ next - at = length-take-le (next - at) (drop at s) (omega (arith, length-drop at s)) in
-    reads-as t rest (part s at (next - at)) to c (k .spells) (k .in-range) f g ∙ rw long
-
--- a text that is cut behind a command still has it
-run-cut : (m : ℕ) (s : List ℕ) → digitRun s ≡ [] → digitRun (take m s) ≡ []
-unfolding digitRun
-run-cut zero s t = refl
-run-cut (suc m) [] t = refl
-run-cut (suc m) (b ∷ s) t = go (isDigit b) refl t
-  where
-    go : (d : Bool) → isDigit b ≡ d → cond d ((b - 48) ∷ digitRun s) [] ≡ [] → cond (isDigit b) ((b - 48) ∷ digitRun (take m s)) [] ≡ []
-    go true q k = let z : _≡_ {A = ℕ} 0 1 = cc in absurd (omega arith)
-    go false q k = rw q
-
-follows-cut : (sp : Spelling) (m : ℕ) (rest : List ℕ) → follows sp rest → follows sp (take m rest)
-follows-cut (Alone l) m rest t = tt
-follows-cut (WithNumber l n) m rest t = run-cut m rest t
-follows-cut (WithTwoDigits l n) m rest t = run-cut m rest t
-
-pub read-cut : (s : List ℕ) (at : ℕ) (c : Command) (next m : ℕ) → readAt s at ≡ At c next → next ≤ m → readAt (take m s) at ≡ At c next
-unfolding part
-read-cut s at c next m e h =
-    let k = read-step s at e in
-    let rest : List ℕ = take (m - next) (drop next s) in
-    let whole : m ≡ at + (next - at) + (m - next) = omega arith in
-    let past : at + (next - at) ≡ next = omega arith in
-    let split : take m s ≡ take at s ++ (take (next - at) (drop at s) ++ rest) =
-    ap (λ (x : ℕ). take x s) whole ∙ take-add (at + (next - at)) (m - next) s
-    ∙ rw (past) (ap (λ (x : ℕ). take x s ++ rest) (sym past) ∙ rw (take-add at (next - at) s, append-assoc (take at s)))
-    in
-    let here : drop at (take m s) ≡ take (next - at) (drop at s) ++ rest =
-    ap (λ (l : List ℕ). drop at l) split ∙ drop-at (take at s) (take (next - at) (drop at s) ++ rest) at (length-take-le at s (omega arith))
-    in
-    read-moved s (take m s) rest at at c next e here (follows-cut (spellingOf c) (m - next) (drop next s) (spells-as s at c next e .ends)) ∙ rw past

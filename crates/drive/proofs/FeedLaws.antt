@@ -22,13 +22,11 @@ use Rattle.frames.specs.Receive.{Received, receiverOf, heardWith, receiveOf}
 use Rattle.frames.proofs.Frame as frame
 use Rattle.turns.specs.declared.Core.{Core}
 use Rattle.obeying.specs.declared.Obeyed.{Obeyed}
-use Rattle.obeying.specs.declared.Write.{Write}
 use Rattle.obeying.specs.Obeying.{dataOf, bodyObeyed}
 use Rattle.obeying.specs.Deeds.{Obeys, tells, nothingTold}
 use Rattle.obeying.proofs.DeedLaws.{body-does}
 use Rattle.drive.specs.declared.Last.{Last}
 use Rattle.drive.specs.declared.Record.{Record}
-use Rattle.drive.specs.declared.Fed.{Fed}
 use Rattle.drive.specs.declared.FeedAnswer.{FeedAnswer}
 use Rattle.drive.proofs.FeedAnswer as answer
 use Rattle.drive.specs.Unit.{Drive, unitOf}

@@ -1,9 +1,8 @@
 -- A flow over a checked text: the open loops are those that enclose its place, and no command goes astray.
 -- Assumes nothing.
 use Prim.Native.Nat.{ℕ, zero, suc, _-_, _≤_, _<_}
-use mathlib.Core.Path.{_≡_, refl, sym, ap, _∙_}
+use mathlib.Core.Path.{_≡_, refl, ap}
 use mathlib.Core.List.{List}
-use mathlib.Core.Bool.{true}
 use native.Mathlib.Omega.{arith}
 use native.Mathlib.Numerals.{add-one}
 use lib.Dec.{eqb}
@@ -14,9 +13,8 @@ use Rattle.parts.proofs.Laws.{cases}
 use Rattle.commands.specs.declared.Command.{Command}
 use Rattle.commands.specs.declared.Command.the-variants.{LoopBegin, LoopEnd, Skip, Jump, Plain}
 use Rattle.commands.specs.declared.Fault.{Fault}
-use Rattle.commands.specs.declared.Read.the-variants.{At, Bad, End}
+use Rattle.commands.specs.declared.Read.the-variants.{At, Bad}
 use Rattle.commands.specs.Reading.{readAt}
-use Rattle.commands.proofs.ReadingLaws.{read-step}
 use Rattle.lines.specs.Texts.{mostOpen}
 use Rattle.lines.specs.Loops.{Enclosed, start, next, after, enclosing, Checked, Skippable}
 use Rattle.lines.proofs.LoopLaws.{lawful, at-most-four, backs, enclosed-by}
@@ -78,19 +76,8 @@ skipped-ok {t} {f} {k} {n} {l} {c} h e q = go c q (rw q at (rw e at (lawful (h .
 pub exactly : {t : List ℕ} {f : Flow} → FlowOk t f → opens (f .depth) (f .starts) ≡ enclosing t (f .at)
 exactly h = enclosed-by (h .place)
 
-pub place-within : {t : List ℕ} {f : Flow} → FlowOk t f → f .at ≤ length t
-place-within {t} {f} h = go (h .place)
-  where
-    go : {at : ℕ} {st : List ℕ} → Enclosed t at st → at ≤ length t
-    go start = omega arith
-    go (next {at = a} c n p e) = read-step t a e .1
-
 pub no-fault : {t : List ℕ} {f : Flow} {x : Fault} → FlowOk t f → readAt t (f .at) ≡ Bad x → ⊥
 no-fault {t} {f} {x} h e = rw e at (lawful (h .checked) (h .place))
-
--- "all closed at the end"
-pub end-closed : {t : List ℕ} {f : Flow} → FlowOk t f → readAt t (f .at) ≡ End → f .depth ≡ 0
-end-closed {t} {f} h e = sym (opens-length (f .depth) (f .starts)) ∙ rw e at (lawful (h .checked) (h .place))
 
 -- ---- a loop begun
 

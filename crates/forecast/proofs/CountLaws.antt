@@ -1,6 +1,6 @@
 -- The one pass gives the count: while no count went over the bound the tally has the exact counts, innermost first; once one did, their sum is over it and stays so,
 -- as a loop runs once at least. Assumes nothing.
-use Prim.Native.Nat.{ℕ, zero, suc, _+_, _-_, _*_, _≤_, _<_}
+use Prim.Native.Nat.{ℕ, _+_, _-_, _*_, _≤_, _<_}
 use mathlib.Core.Path.{_≡_, refl, sym, ap, _∙_}
 use mathlib.Core.List.{List, [], _∷_}
 use mathlib.Core.Bool.{Bool, true, false, cond, _||_, and-eq-true-iff, false≢true}
@@ -12,7 +12,7 @@ use Rattle.parts.proofs.Laws.{cases}
 use Rattle.commands.specs.declared.Command.{Command}
 use Rattle.commands.specs.declared.Command.the-variants.{LoopBegin, LoopEnd, Skip, Jump, Plain}
 use Rattle.commands.specs.declared.Act.{Act}
-use Rattle.lines.specs.Texts.{readingFrom, unplaced, structured, mostOpen}
+use Rattle.lines.specs.Texts.{unplaced, structured, mostOpen}
 use Rattle.lines.specs.Loops.{Checked}
 use Rattle.lines.proofs.LoopLaws.{line-passes}
 use Rattle.courses.specs.Meaning.{courseOf, cost, courseIn, commandsIn}
@@ -24,7 +24,7 @@ use Rattle.forecast.specs.declared.Counted.the-variants.{Commands, Lette
 use Rattle.forecast.specs.declared.Tally.{Tally}
 use Rattle.forecast.specs.Count.{mostCounted, barredAct, anyBarred, bounded, countText}
 use Rattle.forecast.specs.Pass.{tally, marked, exceeded, oneMore, opened, closedBy, tallied, tallyOn, told, textCounted}
-use Rattle.forecast.proofs.BoundLaws.{at-least}
+use Rattle.forecast.proofs.BoundLaws.{at-least, some}
 
 -- ---- a letter is kept
 
@@ -162,10 +162,6 @@ at-begin ds k depth y x s g l e t =
 
 close-letter : (n : ℕ) (y : Tally) → y .letter ≡ false → closedBy n y .letter ≡ false
 close-letter n y e = cases (λ (z : Tally). z .letter ≡ false) (leb (y .first + n * (y .here + 1)) mostCounted) (λ _. e) (λ _. e)
-
-some : (n : ℕ) → (n ≡ 0 → ⊥) → 0 < n
-some zero p = absurd (p refl)
-some (suc n) p = omega arith
 
 at-close : (n : ℕ) (ds : List Command) → Counts ds → Counts (LoopEnd n ∷ ds)
 unfolding tallyOn counting anyBarred structured

@@ -51,13 +51,7 @@ turned k r u l {s} {t} h inv e f =
     inv
     ∙ rw (drop-cons l k 0, ← e, add-one) (past-onward k s (receiveOf (s .receiver) u (drop (suc k) l)) t (sym f) ∙ rw add-one)
 
--- a feed call is one step a byte
-pub receive-law : (r : Receiver) (u b : ℕ) (bs : List ℕ)
-    → receiveOf r u (b ∷ bs) ≡ onward (stepOf r u b) (receiveOf (stepOf r u b .receiver) u bs)
-unfolding receiveOf
-receive-law r u b bs = refl
-
--- one byte of it completes a frame, and the call ends; or the call goes on
+-- one byte of a feed call completes a frame, and the call ends; or the call goes on
 pub receive-ends : (r : Receiver) (u b : ℕ) (bs : List ℕ) → obeyed (stepOf r u b .frame) ≡ true
     → receiveOf r u (b ∷ bs) ≡ ended (stepOf r u b)
 unfolding receiveOf

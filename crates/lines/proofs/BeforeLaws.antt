@@ -30,14 +30,14 @@ use Rattle.lines.specs.declared.Judged.{Judged}
 use Rattle.lines.specs.declared.Judged.the-variants.{Passes, Refused}
 use Rattle.lines.specs.Texts.{Reading, commands, faulty, Placed, placed, unplaced, before, goesOn, readingFrom, structured, storable, faultPlaces, storedPlaces, refusedAt, leftmost, judged, lineJudged, storedBy, storedJudged, mostBytes}
 use Rattle.lines.specs.Bodies.{bodyOf, endsWithR, taken, behind, mostSlot, storeOf, storedAt, takenOf, lineOf, lineCode}
-use Rattle.lines.specs.Lists.{HostList, runText, allInRange, slotInRange, shaped, listFault, SpellsCommands, none, more, SpellsSlot, without, into, Spells, spells}
+use Rattle.lines.specs.Lists.{HostList, runText, allInRange, slotInRange, listFault, SpellsCommands, none, more, SpellsSlot, without, into, Spells, spells}
 use Rattle.lines.specs.Claims.{cutAt, ReadsBefore, Because, by-structure, by-command, by-slot}
 use Rattle.lines.proofs.PlaceLaws.{nowhere, places-none, stored-none}
 use Rattle.lines.proofs.TextLaws.{reading-law}
-use Rattle.lines.proofs.TakenLaws.{no, textOf, text-run, text-length, store-bytes}
+use Rattle.lines.proofs.TakenLaws.{no, textOf, text-run, text-length}
 use Rattle.lines.proofs.PieceLaws.{spelled-pieces}
 use Rattle.lines.proofs.ListLaws.{spelled-head, told}
-use Rattle.lines.proofs.SpellLaws.{reading-spells, slot-few, body-length}
+use Rattle.lines.proofs.SpellLaws.{reading-spells, slot-few, line-short}
 
 -- ---- what stands before a bad command
 
@@ -259,7 +259,7 @@ because b f l e = go (eqb (getD t 0 0) 115) refl e
     t = textOf b
 
     m : length b ≤ mostBytes
-    m = body-length b l
+    m = line-short b l
 
     line : (j : Judged) → lineJudged t ≡ j → taken j (Taken.Line (length t) (endsWithR b)) ≡ Taken.Refused f → Because b f
     line Passes q k = no (cc)

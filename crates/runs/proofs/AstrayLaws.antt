@@ -1,6 +1,5 @@
 -- A sound unit never goes astray. Assumes nothing.
 use Prim.Native.Nat.{ℕ, _≤_}
-use mathlib.Core.Path.{_≡_}
 use mathlib.Core.Bool.{Bool, true, false, false≢true}
 use native.Mathlib.Omega.{arith}
 use Rattle.lines.proofs.LoopLaws.{lawful}

@@ -1,17 +1,15 @@
 -- What a sound unit tells may be the data of a packet, so the packet that a feed call writes is read back. Assumes nothing.
-use Prim.Native.Nat.{ℕ, zero, suc, _+_, _≤_, _<_, min}
+use Prim.Native.Nat.{ℕ, zero, suc, _+_, _≤_, _<_}
 use mathlib.Core.Path.{_≡_, refl, sym, subst}
-use mathlib.Core.List.{List, [], _∷_}
+use mathlib.Core.List.{List, []}
 use mathlib.Core.Bool.{true, not, and-eq-true-iff}
 use native.Mathlib.Omega.{arith}
-use lib.Dec.{ltb, leb}
+use lib.Dec.{leb}
 use lib.ListN.{length, take, drop, length-take}
 use lib.Seq.{take-append-seam}
-use lib.Pow.{pow-mono}
-use borrow.Author.Tests.{leb-true, le-leb, ltb-true, le-ltb}
+use borrow.Author.Tests.{leb-true, le-leb, le-ltb}
 use Rattle.parts.specs.Parts.{putIn}
 use Rattle.parts.proofs.Laws.{cases, put-in-room, put-front}
-use Rattle.digits.specs.Operand.{widest}
 use Rattle.answers.specs.Packet.{statusOf, mostData, packetBytes}
 use Rattle.answers.specs.Reading.{allPrintable, goodData}
 use Rattle.answers.proofs.ReadBack.{reads-back, number-good}
@@ -31,6 +29,7 @@ use Rattle.runs.proofs.CallLaws.{feed-done}
 use Rattle.runs.proofs.PrintLaws.{checked-printable}
 use Rattle.motor.specs.Deeds.{codeValues}
 use Rattle.obeying.specs.Deeds.{Tells, nothingTold, textTold, positionTold, speedTold, sampleTold, endlessTold, stepSizeTold, correctionTold, Obeys, refuses, tells, stores, clears, stops, resumes, speeds, again, loads}
+use Rattle.obeying.proofs.SizeLaws.{step-size-fits}
 use Rattle.drive.proofs.AnswerLaws.{packet-fits}
 use Rattle.drive.proofs.FeedLaws.{frame-does}
 use Rattle.runs.proofs.FitLaws.{FitIn, FitUnit}
@@ -50,11 +49,6 @@ text-good : (t : List ℕ) → length t ≤ mostData → allPrintable t ≡ true
 unfolding goodData
 text-good t l p = rw (le-leb (length t) mostData l) p
 
--- "`?6` .. `j`"
-size-most : (e : ℕ) → stepSize e ≤ widest
-unfolding stepSize
-size-most e = let l : min e 8 ≤ 8 = omega arith in omega (arith, pow-mono l)
-
 -- ---- a frame obeyed
 
 module _ (c : Core) (text : List ℕ) (s : Sound (take (c .flow .length) text) c) (h : FitIn text c) where
@@ -69,7 +63,7 @@ module _ (c : Core) (text : List ℕ) (s : Sound (take (c .flow .length) text) c
   tells-good speedTold = number-good (c .settings .speed) (h .0 .settings .speed)
   tells-good sampleTold = number-good (c .motor .sample) (omega (arith, h .0 .sample))
   tells-good endlessTold = number-good (c .endless) (h .0 .endless)
-  tells-good stepSizeTold = number-good (stepSize (c .settings .exponent)) (size-most (c .settings .exponent))
+  tells-good stepSizeTold = number-good (stepSize (c .settings .exponent)) (step-size-fits (c .settings .exponent))
   tells-good correctionTold = number-good (c .settings .correction) (h .0 .settings .correction)
 
   -- the place of a fault

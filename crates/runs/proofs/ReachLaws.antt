@@ -3,7 +3,7 @@ use mathlib.Core.List.{List}
 use Prim.Native.Nat.{ℕ}
 use Rattle.turns.specs.declared.Core.{Core}
 use Rattle.drive.specs.Unit.{Drive}
-use Rattle.keeping.specs.Kept.{Kept, Holds, CallsKeep}
+use Rattle.keeping.specs.Kept.{Holds, CallsKeep}
 use Rattle.drive.proofs.StartLaws.{started-unit}
 use Rattle.keeping.proofs.CallLaws.{calls-keep}
 use Rattle.runs.specs.Reach.{Call, Feed, Turn, after, Reached, fresh, called}

@@ -18,7 +18,7 @@ use Rattle.image.proofs.HeldLaws.{empty-good, text-passes, text-fits}
 use Rattle.flow.specs.declared.Flow.{Flow}
 use Rattle.flow.specs.Flow.{begun}
 use Rattle.flow.proofs.FlowLaws.{FlowOk, begun-ok, gone-ok, skipped-ok, opened-ok, closed-ok}
-use Rattle.motor.specs.Motion.{reported, answered}
+use Rattle.motor.specs.Motion.{answered}
 use Rattle.motor.proofs.MotorLaws.{MotorOk, Counted, Within, fresh-ok, resumed-ok, stopped-ok, reported-ok, answered-ok, stopped-within, on-within}
 use Rattle.turns.specs.declared.Core.{Core}
 use Rattle.turns.specs.declared.Stepped.{Stepped}
@@ -30,7 +30,6 @@ use Rattle.motor.specs.Deeds.{same}
 use Rattle.keeping.specs.Deeds.{Leads, here, on, over, opens-loop, ends-loop, Does, goes, ends, Steps, keeps-text, enters-text}
 use Rattle.obeying.specs.Deeds.{Obeys, refuses, tells, stores, clears, stops, resumes, speeds, again, loads}
 use Rattle.keeping.specs.Kept.{Kept}
-use Rattle.runs.specs.Reach.{textOf}
 
 -- what holds of a core over the current text t before each call
 pub record Sound (t : List ℕ) (c : Core) : Type 0 where

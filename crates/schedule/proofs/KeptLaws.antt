@@ -13,7 +13,7 @@ use Rattle.motor.specs.Motion.{reported, served, isFree}
 use Rattle.turns.specs.declared.Core.{Core}
 use Rattle.turns.specs.declared.Enter.the-variants.{Stay}
 use Rattle.turns.specs.declared.Stepped.{Stepped}
-use Rattle.turns.specs.Turns.{withMotor, ended, astray, moved, readTaken, running, stepOf, turnCore, textAfter}
+use Rattle.turns.specs.Turns.{withMotor, ended, astray, moved, readTaken, stepOf, turnCore, textAfter}
 use Rattle.turns.specs.Ends.{Reads}
 use Rattle.turns.proofs.TurnLaws.{at-command, at-wait}
 use Rattle.drive.specs.Unit.{Drive}

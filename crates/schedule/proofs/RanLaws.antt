@@ -20,7 +20,7 @@ use Rattle.turns.specs.declared.Enter.{Enter}
 use Rattle.turns.specs.Turns.{withMotor, textAfter}
 use Rattle.turns.specs.Ends.{Reads}
 use Rattle.drive.specs.Unit.{Drive}
-use Rattle.runs.specs.Reach.{Call, Turn, after, Reached, called, textOf}
+use Rattle.runs.specs.Reach.{Call, Turn, after, Reached, textOf}
 use Rattle.runs.specs.Causes.{Made}
 use Rattle.runs.proofs.ReachLaws.{reached-sound}
 use Rattle.runs.proofs.CommandLaws.{turned}
@@ -29,11 +29,6 @@ use Rattle.schedule.specs.Claims.{NoJump, InText, RunsAs, Counted}
 use Rattle.schedule.proofs.KeptLaws.{kept}
 use Rattle.schedule.proofs.TakenLaws.{command-goes}
 use Rattle.schedule.proofs.BeginLaws.{enters}
-
-pub reached-ran : {u v : Drive} {xs : List Step} → Reached u → Ran u xs v → Reached v
-reached-ran r none = r
-reached-ran r (taking {c = c} s h k) = called c (reached-ran r s)
-reached-ran r (other c s h k) = called c (reached-ran r s)
 
 -- v is in the text t, and has taken xs of the course `whole`
 pub record Still (t : List ℕ) (whole : Course) (xs : List Step) (v : Drive) : Type 0 where

@@ -1,12 +1,11 @@
 -- A started unit is one that code can hold, and every byte and every turn keeps it so: no deed takes it away. What answers it fits the
 -- shortest buffer. Assumes nothing.
-use Prim.Native.Nat.{ℕ, zero, suc, _+_, _≤_, min}
-use native.Mathlib.Nat.{pow-le-pow-right}
+use Prim.Native.Nat.{ℕ, zero, suc, _+_, _≤_}
 use native.Mathlib.Omega.{arith}
 use mathlib.Core.Path.{_≡_, refl}
 use mathlib.Core.Bool.{Bool, true, false}
 use mathlib.Core.List.{List, [], _∷_}
-use lib.ListN.{length, take, length-append, length-take}
+use lib.ListN.{length, take, length-take}
 use Rattle.parts.specs.Parts.{paddedText}
 use Rattle.parts.proofs.Laws.{cases, length-padded}
 use Rattle.digits.specs.Operand.{widest}
@@ -22,11 +21,11 @@ use Rattle.turns.specs.declared.Core.{Core}
 use Rattle.turns.specs.declared.setting.Settings.{Settings}
 use Rattle.turns.specs.declared.Stepped.{Stepped}
 use Rattle.turns.specs.Settings.{defaults}
-use Rattle.turns.specs.Turns.{freshCore, withMotor, started, ended, textAfter}
+use Rattle.turns.specs.Turns.{freshCore, started, ended, textAfter}
 use Rattle.lines.specs.Texts.{mostBytes}
 use Rattle.obeying.specs.declared.Tell.{Tell}
 use Rattle.obeying.specs.declared.Obeyed.{Obeyed}
-use Rattle.obeying.specs.Obeying.{stepSize, dataOf, placeTold, loadedAs, textWritten}
+use Rattle.obeying.specs.Obeying.{dataOf, placeTold, loadedAs, textWritten}
 use Rattle.drive.specs.Unit.{Drive}
 use Rattle.drive.proofs.AnswerLaws.{packet-fits}
 use Rattle.drive.proofs.FeedLaws.{frame-does}
@@ -36,8 +35,9 @@ use Rattle.drive.specs.Calls.{startOf, receivedBy, textThen, answerTo, turnOf}
 use Rattle.motor.specs.Deeds.{Goes-on, same, waits, less, places}
 use Rattle.keeping.specs.Deeds.{Sets, Does, goes, ends, Steps, keeps-text, enters-text}
 use Rattle.obeying.specs.Deeds.{Tells, nothingTold, textTold, positionTold, speedTold, sampleTold, endlessTold, stepSizeTold, correctionTold}
+use Rattle.obeying.proofs.SizeLaws.{step-size-fits}
 use Rattle.obeying.specs.Deeds.{Obeys, refuses, tells, stores, clears, stops, resumes, speeds, again, loads}
-use Rattle.keeping.specs.Kept.{Kept, CallsKeep}
+use Rattle.keeping.specs.Kept.{Kept}
 use Rattle.keeping.proofs.CallLaws.{calls-keep}
 use Rattle.keeping.proofs.SettingLaws.{speed-fits, speed-most, endless-fits, correction-fits}
 use Rattle.stream.specs.Steps.{State, Outcome, Quiet, Unanswered, Answer, outcomeOf, bodyIn, obeyedIn, answerIn, stepped, received, byteStep, walkOf}
@@ -134,11 +134,6 @@ abbrev FitsTell : Tell → Type 0
 FitsTell Tell.Nothing = Unit
 FitsTell (Tell.Number k) = k ≤ widest
 FitsTell Tell.Text = Unit
-
--- 2 to the 8 at most
-step-size-fits : (e : ℕ) → stepSize e ≤ widest
-unfolding stepSize
-step-size-fits e = let h : min e 8 ≤ 8 = omega arith in omega (arith, pow-le-pow-right {n = 2} (omega arith) h)
 
 tells-fits : {c : Core} {t : Tell} → FitsCore c → Tells c t → FitsTell t
 tells-fits f nothingTold = tt

@@ -1,9 +1,9 @@
 -- What 02 says of OEM frames: a skipped one completes nothing; of a repeat only a query or an empty body is obeyed, and neither changes the
 -- unit; and what is obeyed is read off the body alone. Assumes nothing.
-use Prim.Native.Nat.{ℕ, _+_, _≤_}
+use Prim.Native.Nat.{ℕ, _+_}
 use mathlib.Core.Path.{_≡_, refl, sym, ap, _∙_}
 use mathlib.Core.List.{List, [], _∷_, _++_}
-use mathlib.Core.Bool.{Bool, true, false, cond, not, _&&_, and-eq-true-iff, true≢false}
+use mathlib.Core.Bool.{true, false, cond, not, and-eq-true-iff, true≢false}
 use lib.ListN.{length, take}
 use lib.Dec.{ltb, eqb}
 use borrow.Author.Tests.{le-ltb, eqb-true}
@@ -27,7 +27,7 @@ use Rattle.frames.proofs.Alike.{as-if-not-come}
 use Rattle.turns.specs.declared.Core.{Core}
 use Rattle.obeying.specs.declared.Tell.{Tell}
 use Rattle.obeying.specs.declared.Obeyed.{Obeyed}
-use Rattle.obeying.specs.Obeying.{telling, silent, immediateObeyed, kindObeyed, bodyObeyed, dataOf, textWritten, imageWritten}
+use Rattle.obeying.specs.Obeying.{telling, immediateObeyed, kindObeyed, bodyObeyed, dataOf, textWritten, imageWritten}
 use Rattle.drive.specs.declared.FeedAnswer.{FeedAnswer}
 use Rattle.drive.specs.declared.Last.{Last}
 use Rattle.drive.specs.Unit.{Drive}

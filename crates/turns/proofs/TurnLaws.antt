@@ -186,15 +186,6 @@ module _ (sample ms steps : ℕ) (t image : List ℕ) (c : Core) where
   unknown-stops a next (moveUp n) q = unknown-stop (behind next) then (relative true n then) q
   unknown-stops a next (moveDown n) q = unknown-stop (behind next) then (relative false n then) q
 
-  -- going astray ends the run too, and leaves the held code
-  pub strays-end : Strays sample t c → c .running ≡ true → Ended (stepOf sample ms steps t image c) (c .code)
-  unfolding readTaken commandTaken skipTaken astray ended reported
-  strays-end (badRead f r) h = rw (at-command h (Bad f) r) (refl, refl)
-  strays-end (tooDeep next r q) h = rw (at-command h (At LoopBegin next) r, q) (refl, refl)
-  strays-end (noneOpen n next r q) h = rw (at-command h (At (LoopEnd n) next) r, q) (refl, refl)
-  strays-end (skipsBad digits next f r l e) h = rw (at-command h (At (Skip digits) next) r, l, e) (refl, refl)
-  strays-end (skipsEnd digits next r l e) h = rw (at-command h (At (Skip digits) next) r, l, e) (refl, refl)
-
   -- each cause ends the run, with its code
   pub step-each : (k : ℕ) → TurnEnds sample steps t image c k → c .running ≡ true
       → Ended (stepOf sample ms steps t image c) k

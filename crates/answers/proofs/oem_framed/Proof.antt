@@ -14,54 +14,21 @@ returns c =
     let s = c .before .before .args .packet .now in
     fails (oemFramed s) (λ f. omega (arith, framed-long oem s f))
 
-shared-slice-read-if2 : tie.Need-shared-slice-read-if2
-shared-slice-read-if2 c = search needs
-
 returns-2 : tie.Need-returns-2
 returns-2 c =
     let s = c .before .before .before .before .args .packet .now in
     fails (oemFramed s) (λ f. c .if2 .taken (framed-first oem s f))
-
-shared-slice-read-if3 : tie.Need-shared-slice-read-if3
-shared-slice-read-if3 c = search needs
 
 returns-3 : tie.Need-returns-3
 returns-3 c =
     let s = c .before .before .before .before .before .before .args .packet .now in
     fails (oemFramed s) (λ f. c .if3 .taken (framed-second oem s f))
 
-sub-end : tie.Need-sub-end
-sub-end c = search needs
-
-shared-slice-read-if4 : tie.Need-shared-slice-read-if4
-shared-slice-read-if4 c = search needs
-
 returns-4 : tie.Need-returns-4
 unfolding oemTail
 returns-4 c =
     let s = c .before .before .before .before .before .before .before .before .args .packet .now in
     fails (oemFramed s) (λ f. c .if4 .taken (rw add-zero at (framed-last oem s f 0)))
-
-add-result : tie.Need-add-result
-add-result c = search needs
-
-shared-slice-read-result : tie.Need-shared-slice-read-result
-shared-slice-read-result c = search needs
-
-add-sum : tie.Need-add-sum
-add-sum c = search needs
-
-sub-sum : tie.Need-sub-sum
-sub-sum c = search needs
-
-part-sum-start : tie.Need-part-sum-start
-part-sum-start c = search needs
-
-part-sum-end : tie.Need-part-sum-end
-part-sum-end c = search needs
-
-sum-requires : tie.Need-sum-requires
-sum-requires c κs = search needs
 
 returns-5 : tie.Need-returns-5
 returns-5 c =
@@ -77,18 +44,18 @@ oem-framed-spec =
     tie.close
     (tie.spec
     returns
-    shared-slice-read-if2
+    (λ c. search needs)
     returns-2
-    shared-slice-read-if3
+    (λ c. search needs)
     returns-3
-    sub-end
-    shared-slice-read-if4
+    (λ c. search needs)
+    (λ c. search needs)
     returns-4
-    add-result
-    shared-slice-read-result
-    add-sum
-    sub-sum
-    part-sum-start
-    part-sum-end
-    sum-requires
+    (λ c. search needs)
+    (λ c. search needs)
+    (λ c. search needs)
+    (λ c. search needs)
+    (λ c. search needs)
+    (λ c. search needs)
+    (λ c κs. search needs)
     returns-5)

@@ -20,18 +20,6 @@ abbrev μ-loop : tie.MeasureT-loop
 loop-holds : tie.Need-loop-holds Inv-loop μ-loop
 loop-holds c = (zero-le, refl)
 
-shared-slice-read-zero-too : tie.Need-shared-slice-read-zero-too Inv-loop μ-loop
-shared-slice-read-zero-too c = omega arith
-
-zero-too-requires : tie.Need-zero-too-requires Inv-loop μ-loop
-zero-too-requires c κs = search needs
-
-add-i : tie.Need-add-i Inv-loop μ-loop
-add-i c = omega arith
-
-loop-less : tie.Need-loop-less Inv-loop μ-loop
-loop-less c = omega arith
-
 loop-again : tie.Need-loop-again Inv-loop μ-loop
 loop-again c =
     let l = c .before .before .before in
@@ -50,9 +38,9 @@ all-zero-spec =
     Inv-loop
     μ-loop
     loop-holds
-    shared-slice-read-zero-too
-    zero-too-requires
-    add-i
-    loop-less
+    (λ c. omega arith)
+    (λ c κs. search needs)
+    (λ c. omega arith)
+    (λ c. omega arith)
     loop-again
     returns)

@@ -6,21 +6,6 @@ use borrow.Author.Needs.{needs}
 use Rattle.image.proofs.body_of.Statement.{statement}
 use Rattle.image.proofs.body_of.Tie as tie
 
-start-of-requires : tie.Need-start-of-requires
-start-of-requires c κs = search needs
-
-add-result : tie.Need-add-result
-add-result c = search needs
-
-sub-result : tie.Need-sub-result
-sub-result c = search needs
-
-part-result-start : tie.Need-part-result-start
-part-result-start c = search needs
-
-part-result-end : tie.Need-part-result-end
-part-result-end c = search needs
-
 returns : tie.Need-returns
 unfolding bodyOf
 returns c = rw (c .before .start-of .ensures) (cut (c .before .before .before .args .image .now) _ _)
@@ -28,4 +13,4 @@ returns c = rw (c .before .start-of .ensures) (cut (c .before .before .before .a
 pub body-of-spec : {M : Type 1} → statement M
 body-of-spec =
     tie.close
-    (tie.spec start-of-requires add-result sub-result part-result-start part-result-end returns)
+    (tie.spec (λ c κs. search needs) (λ c. search needs) (λ c. search needs) (λ c. search needs) (λ c. search needs) returns)

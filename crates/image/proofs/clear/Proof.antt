@@ -26,27 +26,12 @@ loop-holds : tie.Need-loop-holds Inv-loop μ-loop
 unfolding put emptyEntries
 loop-holds c = (zero-le, refl, refl)
 
-put-entry-requires : tie.Need-put-entry-requires Inv-loop μ-loop
-put-entry-requires c κs = search needs
-
-add-slot : tie.Need-add-slot Inv-loop μ-loop
-add-slot c = search needs
-
-loop-less : tie.Need-loop-less Inv-loop μ-loop
-loop-less c = search needs
-
 loop-again : tie.Need-loop-again Inv-loop μ-loop
 loop-again c =
     let p = c .before .before in
     let l = p .before .before .before in
     let image = l .before .before .before .args .image .now in
     (omega arith, p .put-entry .ensures ∙ rw (l .loop .inv .1) (entry-more image (l .loop .slot)), p .put-entry .kept .0 ∙ l .loop .inv .2)
-
-sub-wipe-at : tie.Need-sub-wipe-at Inv-loop μ-loop
-sub-wipe-at c = search needs
-
-wipe-at-requires : tie.Need-wipe-at-requires Inv-loop μ-loop
-wipe-at-requires c κs = search needs
 
 same-length : tie.Need-same-length Inv-loop μ-loop
 same-length c = c .before .before .wipe-at .kept .0 ∙ c .before .before .before .before .before .loop .inv .2
@@ -70,11 +55,11 @@ clear-spec =
     μ-loop
     returns
     loop-holds
-    put-entry-requires
-    add-slot
-    loop-less
+    (λ c κs. search needs)
+    (λ c. search needs)
+    (λ c. search needs)
     loop-again
-    sub-wipe-at
-    wipe-at-requires
+    (λ c. search needs)
+    (λ c κs. search needs)
     same-length
     returns-2)

@@ -1,5 +1,4 @@
 -- `obeying::tell_place` meets its contract: a place is 0 or told, and one of at most 257 fits a number that is told. Assumes nothing.
-use native.Mathlib.Omega.{arith}
 use borrow.Author.Needs.{needs}
 use Rattle.obeying.proofs.DeedLaws.{place-told}
 use Rattle.obeying.proofs.tell_place.Statement.{statement}

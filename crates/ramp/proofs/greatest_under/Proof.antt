@@ -25,15 +25,6 @@ mul-if1-2 c = fits-le (mul-le-mul-left 2 (square-le (c .pre))) (fits-lit tt)
 returns : tie.Need-returns Inv-loop μ-loop
 returns c = sym (whole (c .if1 .taken))
 
-guess-requires : tie.Need-guess-requires Inv-loop μ-loop
-guess-requires c κs = search needs
-
-step-requires : tie.Need-step-requires Inv-loop μ-loop
-step-requires c κs = search needs
-
-least-requires : tie.Need-least-requires Inv-loop μ-loop
-least-requires c κs = search needs
-
 loop-holds : tie.Need-loop-holds Inv-loop μ-loop
 loop-holds c = rw (c .least .ensures, c .before .step .ensures) (begun _ (c .before .before .guess .ensures .0))
 
@@ -64,9 +55,9 @@ greatest-under-spec =
     mul-if1
     mul-if1-2
     returns
-    guess-requires
-    step-requires
-    least-requires
+    (λ c κs. search needs)
+    (λ c κs. search needs)
+    (λ c κs. search needs)
     loop-holds
     mul-loop
     mul-loop-2

@@ -16,14 +16,8 @@ power-within {k} h = rw (shl-exact {a = 1} 1 k 64 (lit< tt) (omega arith), one-m
 sub-result : tie.Need-sub-result
 sub-result c = leading-le 64 (c .args .square)
 
-cast-result : tie.Need-cast-result
-cast-result c = search needs
-
-shl-result : tie.Need-shl-result
-shl-result c = search needs
-
 returns : tie.Need-returns
 returns c = power-within (omega (arith, leading-le 64 (c .args .square)))
 
 pub guess-spec : {M : Type 1} → statement M
-guess-spec = tie.close (tie.spec sub-result cast-result shl-result returns)
+guess-spec = tie.close (tie.spec sub-result (λ c. search needs) (λ c. search needs) returns)

@@ -17,9 +17,6 @@ abbrev μ-loop : tie.MeasureT-loop
 loop-holds : tie.Need-loop-holds Inv-loop μ-loop
 loop-holds c = (omega arith, omega arith, length-some _)
 
-power-of-requires : tie.Need-power-of-requires Inv-loop μ-loop
-power-of-requires c κs = omega arith
-
 returns : tie.Need-returns Inv-loop μ-loop
 returns c =
     let n = c .before .before .before .before .args .n in
@@ -27,12 +24,6 @@ returns c =
     let fits : n < 10 ^ k = omega (arith, c .before .power-of .ensures, c .if1 .taken) in
     let l : length (decimal n) ≤ k = length-most k n (omega arith) fits in
     omega (arith, l)
-
-add-k : tie.Need-add-k Inv-loop μ-loop
-add-k c = omega arith
-
-loop-less : tie.Need-loop-less Inv-loop μ-loop
-loop-less c = omega arith
 
 loop-again : tie.Need-loop-again Inv-loop μ-loop
 loop-again c =
@@ -51,9 +42,9 @@ count-digits-spec =
     Inv-loop
     μ-loop
     loop-holds
-    power-of-requires
+    (λ c κs. omega arith)
     returns
-    add-k
-    loop-less
+    (λ c. omega arith)
+    (λ c. omega arith)
     loop-again
     returns-2)

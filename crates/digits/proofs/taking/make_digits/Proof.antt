@@ -18,9 +18,6 @@ count-digits-requires c κs = tt
 loop-holds : tie.Need-loop-holds Inv-loop μ-loop
 loop-holds c = making _ _ _ (omega arith) (c .before .before .pre) (c .count-digits .ensures)
 
-sub-left : tie.Need-sub-left Inv-loop μ-loop
-sub-left c = omega arith
-
 power-of-requires : tie.Need-power-of-requires Inv-loop μ-loop
 power-of-requires c κs = omega (arith, c .before .loop .inv .place)
 
@@ -35,9 +32,6 @@ slice-write-digits c = omega (arith, c .before .before .before .before .loop .in
 
 add-i : tie.Need-add-i Inv-loop μ-loop
 add-i c = omega (arith, c .before .before .before .before .loop .inv .place)
-
-loop-less : tie.Need-loop-less Inv-loop μ-loop
-loop-less c = omega arith
 
 loop-again : tie.Need-loop-again Inv-loop μ-loop
 loop-again c =
@@ -59,13 +53,13 @@ make-digits-spec =
     μ-loop
     count-digits-requires
     loop-holds
-    sub-left
+    (λ c. omega arith)
     power-of-requires
     take-digit-requires
     add-digits
     slice-write-digits
     add-i
-    loop-less
+    (λ c. omega arith)
     loop-again
     same-length
     returns)

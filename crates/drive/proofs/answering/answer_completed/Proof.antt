@@ -4,9 +4,6 @@ use Rattle.drive.proofs.FeedLaws.{answers-none, answers-alone}
 use Rattle.drive.proofs.answering.answer_completed.Statement.{statement}
 use Rattle.drive.proofs.answering.answer_completed.Tie as tie
 
-answer-frame-requires : tie.Need-answer-frame-requires
-answer-frame-requires c κs = search needs
-
 returns : tie.Need-returns
 returns c = answers-none (rw (c .enum-told .given .1))
 
@@ -22,7 +19,7 @@ answer-completed-spec =
     (tie.spec
     (λ c. search needs)
     (λ c. search needs)
-    answer-frame-requires
+    (λ c κs. search needs)
     (λ c. search needs)
     returns
     (λ c. search needs)
