@@ -7,7 +7,7 @@ use mathlib.Core.Bool.{Bool, true, false, _&&_, and-eq-true-iff}
 use native.Mathlib.Omega.{arith}
 use lib.ListN.{length, getD, take, drop, length-take, length-drop}
 use lib.Seq.{getD-take, getD-drop, take-take}
-use lib.Dec.{eqb}
+use lib.Dec.{leb, eqb}
 use borrow.Author.Tests.{lt-ltb, le-ltb, le-leb, lt-leb, leb-true, eq-eqb, ne-eqb, eqb-true}
 use Rattle.parts.specs.Parts.{part}
 use Rattle.digits.specs.Operand.{operandMost}
@@ -90,8 +90,8 @@ module _ (image : List ℕ) (k : ℕ) (long : length image ≡ 4160) (slot : k <
         let g = sym (slot-judged most image k long slot) ∙ h in
         let three = and-eq-true-iff _ (zeros (drop (lengthIn (entryOf image k)) body)) .0 g in
         let two = and-eq-true-iff _ (textGoodBy most (take (lengthIn (entryOf image k)) body)) .0 (three .0) in
-        let one = and-eq-true-iff (eqb (startIn (entryOf image k)) (64 + 256 * k)) _ .0 (two .0) in
-        let fits : at ≤ 256 = rw (length-is image k) at (leb-true _ _ (one .1)) in
+        let one = and-eq-true-iff (eqb (startIn (entryOf image k)) (64 + 256 * k)) (leb (lengthIn (entryOf image k)) 256) .0 (two .0) in
+        let fits : at ≤ 256 = rw (length-is image k) at (leb-true (lengthIn (entryOf image k)) 256 (one .1)) in
         record {
           start = sym (start-is image k) ∙ eqb-true _ _ (one .0);
           fits = fits;
@@ -130,7 +130,7 @@ image-row image = record {
   good = λ l h. rw (eq-eqb (length image) 4160 l, so-every operandMost image l h);
   slot = λ k l h. (slot-so image k l h operandMost, so-slot image k l h operandMost);
   no-slot = λ k h. sym (no-slot operandMost image k h);
-  text = λ k h. rw h (text-is image k (sound image k h .fits));
+  text = λ k h. rw h (text-is image k (rw (length-is image k) at (sound image k h .fits)));
 }
 
 pub store-row : (image : List ℕ) (k : ℕ) (text : List ℕ) → StoreRow image k text
