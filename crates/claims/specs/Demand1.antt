@@ -32,6 +32,7 @@ use Rattle.drive.specs.Calls.{Starting, startOf, receivedBy, bodyBy, packetAs, 
 use Rattle.claims.specs.Order.{faultInOrder, codeInOrder}
 use Rattle.claims.specs.Images.{EverySlot, ImageRow, StoreRow}
 use Rattle.claims.specs.Packets.{PacketRow}
+use Rattle.claims.specs.Counts.{CountRow}
 
 -- from low to high
 abbrev pub From : ℕ → ℕ → ℕ → Type 0
@@ -154,6 +155,8 @@ pub record Demand1 : Type 0 where
   pub ramp : (v l : ℕ) (endless : Bool) (n : ℕ) → RampRow v l endless n
   pub check-image : (image : List ℕ) → ImageRow image
   pub store : (image : List ℕ) (k : ℕ) (text : List ℕ) → StoreRow image k text
+  -- 02, E14: "Refusals: by name, .."
+  pub count : (b : List ℕ) → CountRow b
   -- the line check has a code for every body
   pub check-line : (b : List ℕ) → table.oneOf (0 ∷ 2 ∷ 3 ∷ []) (lineCode b) ≡ true
   -- 02, E6: and the place of its fault
