@@ -1,7 +1,6 @@
 -- A packet that the host reads. 01, the row "slice not exactly one packet (status bit 6 set, bits 7 and 4 clear,
 -- data 0 to 256 bytes of 20 to 7E hex) | named refusal". Assumes nothing.
 use Prim.Native.Nat.{ℕ, _-_, _/_, _%_, _^_}
-use Prim.Native.String.{String}
 use mathlib.Core.List.{List, [], _∷_}
 use mathlib.Core.Bool.{Bool, true, false, cond, not, _&&_}
 use lib.ListN.{length, getD}
@@ -57,10 +56,6 @@ insideOf s = cond (isPacket s) (StatusData (statusIn s) (length (dataIn s))) Nei
 abbrev pub foundOf : Bool → Found
 foundOf true = OnePacket
 foundOf false = NotOnePacket
-
-abbrev pub foundName : Found → String
-foundName OnePacket = "exactly one packet"
-foundName NotOnePacket = "not exactly one packet"
 
 -- a refusal has zeros beside its name
 abbrev pub refused : Packet

@@ -1,9 +1,8 @@
 -- The count by name: what is not counted is what the letters say, and the tests come in their order. Assumes nothing.
 use Prim.Native.Nat.{ℕ}
-use mathlib.Core.Path.{_≡_, refl, sym, ap, _∙_}
+use mathlib.Core.Path.{_≡_, refl, sym}
 use mathlib.Core.List.{List, [], _∷_}
 use mathlib.Core.Bool.{Bool, true, false, _||_, false≢true}
-use native.Mathlib.Omega.{arith}
 use lib.ListN.{length}
 use borrow.Author.Tests.{le-leb, lt-leb, eq-eqb, ne-eqb, eqb-true}
 use Rattle.commands.specs.declared.Command.{Command}
@@ -11,8 +10,7 @@ use Rattle.commands.specs.declared.Command.the-variants.{LoopBegin, LoopEnd, Sk
 use Rattle.commands.specs.declared.Act.{Act}
 use Rattle.commands.specs.declared.Act.the-variants.{MoveTo, MoveUp, MoveDown, SetPosition, Home, Set, Delay, WaitInput}
 use Rattle.commands.specs.Table.{table, find, commandOf}
-use Rattle.lines.specs.Texts.{these, bareFrom}
-use Rattle.lines.specs.Bodies.{lineFault, lineCode}
+use Rattle.lines.specs.Bodies.{lineCode}
 use Rattle.courses.specs.Meaning.{unrolled, cost, courseIn, commandsIn}
 use Rattle.courses.proofs.SteadyLaws.{costs}
 use Rattle.forecast.specs.Count.{barredAct, barred, anyBarred, countText, bodyText, countOf}

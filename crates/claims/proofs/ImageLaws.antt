@@ -3,7 +3,7 @@
 use Prim.Native.Nat.{ℕ, zero, suc, _+_, _-_, _*_, _≤_, _<_}
 use mathlib.Core.Path.{_≡_, refl, sym, ap, _∙_}
 use mathlib.Core.List.{List, [], _∷_}
-use mathlib.Core.Bool.{Bool, true, false, _&&_, and-eq-true-iff}
+use mathlib.Core.Bool.{Bool, true, false, and-eq-true-iff}
 use native.Mathlib.Omega.{arith}
 use lib.ListN.{length, getD, take, drop, length-take, length-drop}
 use lib.Seq.{getD-take, getD-drop, take-take}
@@ -12,7 +12,7 @@ use borrow.Author.Tests.{lt-ltb, le-ltb, le-leb, lt-leb, leb-true, eq-eqb, ne-eq
 use Rattle.parts.specs.Parts.{part}
 use Rattle.digits.specs.Operand.{operandMost}
 use Rattle.lines.specs.Texts.{textGoodBy}
-use Rattle.image.specs.Image.{slots, wordAt, startIn, lengthIn, entryOf, bodyOf, zeros, goodAt, slotBy, slotsBy, slotGood, slotText}
+use Rattle.image.specs.Image.{slots, wordAt, startIn, lengthIn, entryOf, bodyOf, zeros, goodAt, slotBy, slotsBy, slotText}
 use Rattle.image.specs.Calls.{checkedBy, storedOf}
 use Rattle.image.proofs.SlotLaws.{sound, slot-judged, no-slot, slots-each, slots-all}
 use Rattle.claims.specs.Images.{startBits, lengthBits, SlotSo, EverySlot, ImageRow, StoreRow}

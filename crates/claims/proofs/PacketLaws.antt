@@ -1,15 +1,16 @@
 -- A packet in 01's bytes: the status and the data that the reading takes are those, and no slice else is read (`AnswerClaims`).
 -- Assumes nothing.
-use Prim.Native.Nat.{ℕ, zero, suc, _+_, _%_, _≤_, _<_}
+use Prim.Native.Nat.{ℕ, zero, suc, _%_, _≤_, _<_}
 use mathlib.Core.Path.{_≡_, refl, sym, ap, subst, _∙_}
-use mathlib.Core.List.{List, [], _∷_, _++_, append-assoc}
-use mathlib.Core.Bool.{Bool, true, false, _&&_, and-eq-true-iff}
+use mathlib.Core.List.{List, [], _∷_, append-assoc}
+use mathlib.Core.Bool.{Bool, true, false, and-eq-true-iff}
 use native.Mathlib.Omega.{arith}
 use lib.ListN.{length, getD}
 use lib.Dec.{leb}
 use borrow.Author.Tests.{le-leb, leb-true}
-use Rattle.answers.specs.Packet.{packet, statusOf, lowFour}
-use Rattle.answers.specs.Reading.{bit, printable, allPrintable, goodStatus, goodData, foundName, foundOf, refused, readOf}
+use Rattle.answers.specs.Packet.{packet, statusOf}
+use Rattle.answers.specs.Reading.{bit, printable, allPrintable, goodData, refused, readOf}
+use Rattle.answers.specs.Names.{foundName}
 use Rattle.answers.specs.Oem.{oemSum, oemTail, oemPacket, readOemOf}
 use Rattle.answers.specs.declared.Packet.{Packet}
 use Rattle.answers.specs.declared.Found.{Found}

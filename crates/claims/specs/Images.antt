@@ -7,7 +7,7 @@ use mathlib.Core.Bool.{Bool, true, false}
 use mathlib.Core.Logic.{_↔_}
 use lib.ListN.{length, getD}
 use Rattle.parts.specs.Parts.{part}
-use Rattle.lines.specs.Texts.{textGood, olderGood}
+use Rattle.lines.specs.Texts.{textGood}
 use Rattle.image.specs.Image.{slotGood, slotText}
 use Rattle.image.specs.Calls.{checkedName, checkedOf, storedName, storedOf}
 

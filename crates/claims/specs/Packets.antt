@@ -7,7 +7,8 @@ use mathlib.Core.Bool.{Bool, cond}
 use lib.ListN.{length, getD}
 use Rattle.checksum.specs.Checksum.{checksumOf}
 use Rattle.answers.specs.declared.Packet.{Packet}
-use Rattle.answers.specs.Reading.{foundName, refused, readOf}
+use Rattle.answers.specs.Names.{foundName}
+use Rattle.answers.specs.Reading.{refused, readOf}
 use Rattle.answers.specs.Oem.{readOemOf}
 use Rattle.answers.specs.AnswerClaims.{carried}
 

@@ -20,7 +20,7 @@ use Rattle.commands.specs.Writing.{twoDigits, spelled}
 use Rattle.commands.proofs.WritingLaws.{letter-written, spelling-some}
 use Rattle.lines.specs.declared.Slot.the-variants.{NoSlot, Into}
 use Rattle.lines.specs.Texts.{mostBytes, structured}
-use Rattle.lines.specs.Bodies.{bodyOf, lineFault, lineCode}
+use Rattle.lines.specs.Bodies.{bodyOf, lineCode}
 use Rattle.lines.specs.Examples.{bytes}
 use Rattle.lines.specs.Lists.{HostList, slotText, commandsText, runText, writtenOf, allInRange, listFault, listCode, list, listOf}
 use Rattle.lines.proofs.ListLaws.{list-law, list-back}
