@@ -85,7 +85,7 @@ held-code (fresh number image body text l e) = go (slotGood image 0) refl
     is q h = subst (λ (n : ℕ). oneOf causeCodes n ≡ true) (sym q) h
 
     go : (b : Bool) → slotGood image 0 ≡ b → oneOf causeCodes (startOf number image body text .unit .core .code) ≡ true
-    go true g = is (starts-good number image body text e g) refl
+    go true g = is (starts-good number image body text e g .code-0) refl
     go false g = is (starts-held number image body text e g .holding) refl
 held-code (called {u} c r) = after-held c r (held-code r)
 

@@ -3,16 +3,17 @@
 use Prim.Native.Nat.{ℕ, _^_, _+_, _-_, _≤_, _<_}
 use mathlib.Core.Path.{_≡_}
 use mathlib.Core.List.{List, [], _∷_}
-use mathlib.Core.Bool.{Bool, true, false, cond, not}
-use lib.ListN.{set}
-use lib.Dec.{eqb}
+use mathlib.Core.Bool.{Bool, true, false, cond, not, _&&_}
+use lib.ListN.{length, set}
+use lib.Dec.{ltb, eqb}
 use Rattle.commands.specs.declared.Read.the-variants.{At}
 use Rattle.commands.specs.Table.{top, commandOf}
+use Rattle.answers.specs.Reading.{bit}
 use Rattle.motor.specs.declared.Wait.{Wait}
 use Rattle.motor.specs.Inputs.{levelThere, falls}
 use Rattle.motor.specs.Motion.{last}
 use Rattle.turns.specs.declared.setting.Settings.{Settings}
-use Rattle.turns.specs.declared.Direction.{Direction}
+use Rattle.turns.specs.Turns.{directionName}
 use Rattle.turns.specs.Ends.{Reads, positionThen}
 use Rattle.drive.specs.Unit.{Drive}
 use Rattle.drive.specs.Calls.{Turning}
@@ -74,6 +75,19 @@ pub record HeldAtStart (u : Drive) : Type 0 where
   pub idle : u .core .running ≡ false
   pub empty : textOf u ≡ []
   pub holding : u .core .code ≡ 1
+
+-- "At start a non-empty program 0 becomes the current text and runs; else the current text is empty."
+pub record StartsWith (program : List ℕ) (u : Drive) : Type 0 where
+  pub text : textOf u ≡ program
+  pub runs : u .core .running ≡ ltb 0 (length program)
+  pub code-0 : u .core .code ≡ 0
+
+-- "a sample of inputs 1 to 4 (bits 0 to 3)", and "two digits, level then input": input i + 1, low and high
+pub record Levels (sample : ℕ) : Type 0 where
+  pub low : (i : ℕ) → i < 4 → levelThere (1 + i) sample ≡ not (bit i sample)
+  pub high : (i : ℕ) → i < 4 → levelThere (11 + i) sample ≡ bit i sample
+  -- "when input 2 falls between two samples"
+  pub fallen : (before : ℕ) → falls before sample ≡ bit 1 before && not (bit 1 sample)
 
 -- ---- one turn: u becomes v, with this sample
 
@@ -191,6 +205,8 @@ pub record EachCommand (t : ATurn) : Type 0 where
   -- `Z n`: "If cut, move away at most 10,000 ..; then toward zero at most n", and 400 more by E2
   pub homes-away : (n : ℕ) → Takes t 90 n → atFlag t ≡ true → Waits t (Wait.LegAway 10000 n)
   pub homes-toward : (n : ℕ) → n ≤ top → Takes t 90 n → atFlag t ≡ false → Waits t (Wait.LegToward (n + 400))
+  -- "`e` makes the slot's text the current text (not where it stops the run with 1)"
+  pub bad-slot : (n : ℕ) → Takes t 101 n → then t .core .running ≡ false → textOf (then t) ≡ textOf (t .unit)
   -- `g`, `G`, `S` and `e`: where they lead is said of whole runs, and they touch no setting and not the position
   pub flows : {l : ℕ} (n : ℕ) → Flowing l → Takes t l n → Keeps (t .unit) (then t) (t .sample) (here t)
 
@@ -232,11 +248,11 @@ pub data Resting : Wait → Type 0 where
 -- ---- the action: "direction and greatest number of microsteps. A number of 0 has no direction."; "`F1` turns the direction of every action"
 pub record Answers (r : Turning) : Type 0 where
   pub number : r .action .number ≡ r .unit .core .motor .last .number
-  pub none : r .unit .core .motor .last .number ≡ 0 → r .action .direction ≡ Direction.Still
+  pub none : r .unit .core .motor .last .number ≡ 0 → directionName (r .action .direction) ≡ "no direction"
   pub straight : (up : Bool) → 0 < r .unit .core .motor .last .number → r .unit .core .settings .turned ≡ 0 → r .unit .core .motor .last .up ≡ up
-      → r .action .direction ≡ cond up Direction.Up Direction.Down
+      → directionName (r .action .direction) ≡ cond up "up" "down"
   pub turned : (up : Bool) → 0 < r .unit .core .motor .last .number → r .unit .core .settings .turned ≡ 1 → r .unit .core .motor .last .up ≡ up
-      → r .action .direction ≡ cond up Direction.Down Direction.Up
+      → directionName (r .action .direction) ≡ cond up "down" "up"
   -- what is waited for is what is answered; "homing steps do not count in the position"
   pub move : (up endless : Bool) (left : ℕ) → r .unit .core .motor .wait ≡ Wait.Move up endless left → r .unit .core .motor .last ≡ last up left true
   pub leg : homing (r .unit .core .motor .wait) ≡ true → r .unit .core .motor .last .counts ≡ false

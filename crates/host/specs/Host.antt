@@ -1,6 +1,7 @@
 -- The host's side: a line written from a list of commands. 01, "The host's list" and the host's row of the outcomes.
 -- Assumes nothing.
 use Prim.Native.Nat.{ℕ}
+use Prim.Native.String.{String}
 use mathlib.Core.List.{List}
 use mathlib.Core.Bool.{Bool, cond}
 use mathlib.Core.Path.{_≡_}
@@ -45,6 +46,12 @@ abbrev pub codeIn : LineWritten → ℕ
 codeIn (Bytes n) = 0
 codeIn (Refused f) = f .code
 codeIn NoRoom = 0
+
+-- and its name: "that code, or named refusal"
+abbrev pub lineName : LineWritten → String
+lineName (Bytes n) = "written"
+lineName (Refused f) = "the line check's code"
+lineName NoRoom = "buffer too short"
 
 -- what each answer leaves: the line at the front, bytes past it unchanged; else "buffer unchanged"
 abbrev pub leftBy : LineWritten → HostList → List ℕ → List ℕ

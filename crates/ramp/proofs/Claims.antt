@@ -5,19 +5,19 @@ use Prim.Native.Nat.{ℕ, _+_, _*_, _/_, zero-le}
 use native.Mathlib.Nat.{lt-irrefl, zero-mul, mul-comm, div-mul-le-self, lt-mul-div-succ}
 use native.Mathlib.Omega.{arith}
 use mathlib.Core.Bool.{Bool, false, not}
-use lib.Dec.{T, T-not, eqb, eqb-refl, lit≤, lit<}
+use lib.Dec.{T, T-not, eqb, eqb-refl, lit<}
 use lib.IntN.{pos}
 use lib.Ieee.{Float, lt}
 use lib.Ieee.Positive.{positive, positive-finite}
 use Rattle.ramp.specs.declared.Verdict.{Verdict}
 use Rattle.ramp.specs.declared.Verdict.the-variants.{Taken, RefusedV, RefusedL, RefusedN}
 use Rattle.ramp.specs.declared.Figures.{Figures}
-use Rattle.ramp.specs.Ranges.{topV, topL, topN, outside, Accepted}
-use Rattle.ramp.specs.Peak.{doubleUnit, greatest, peakOf}
+use Rattle.ramp.specs.Ranges.{topV, topL, topN, Accepted}
+use Rattle.ramp.specs.Peak.{doubleUnit, peakOf}
 use Rattle.ramp.specs.Ramp.{timeOf, distanceOf, takenOf, refusedOf, figuresOf, codeOf}
-use Rattle.ramp.specs.Claims.{WholeFigures, ExactFloats, GoodTime, OneQuotient, Refused, NoBadTime, When, Outcome, K14, RampClaims}
+use Rattle.ramp.specs.Claims.{WholeFigures, ExactFloats, GoodTime, OneQuotient, Refused, NoBadTime, When, Outcome, RampClaims}
 use Rattle.ramp.proofs.Ranges.{not-outside, is-outside}
-use Rattle.ramp.proofs.Peak.{pinned, whole, peak-is, peak-only, peak-within}
+use Rattle.ramp.proofs.Peak.{pinned, peak-is, peak-only, peak-within}
 use Rattle.ramp.proofs.Exact.{speed-exact, acceleration-exact, time-once, time-positive, no-time}
 use Rattle.ramp.proofs.Guards.{above-zero, no-nan, guarded, guarded-positive, nothing-below-nan}
 use Rattle.ramp.proofs.Cases.{Case, v-out, l-out, n-out, all-in, cases}
@@ -135,20 +135,6 @@ peak-0 v n = rw (zero-mul n) (pinned v 0 0 zero-le zero-le (λ h. lit< tt))
 slips-by : (v n : ℕ) (limit : Float) → lt limit (timeOf (peakOf v 0 false n) 0) ≡ false
 slips-by v n limit = rw (peak-0 v n, no-time) (nothing-below-nan limit)
 
--- ---- K14
-full : greatest 305175 (doubleUnit * 1000 * 15259) ≡ 305175
-full = whole (lit≤ tt)
-
-table : K14
-unfolding figuresOf takenOf distanceOf peakOf outside
-table = record {
-  n15259-peak = full;
-  n15259-distance = ap (λ (p : ℕ). p * p / (doubleUnit * 1000)) full;
-  n15258 = pinned 305175 (doubleUnit * 1000 * 15258) 305167 (lit≤ tt) (lit≤ tt) (λ h. lit< tt);
-  n1 = pinned 305175 (doubleUnit * 1000 * 1) 2470 (lit≤ tt) (lit≤ tt) (λ h. lit< tt);
-  l1-n1 = pinned 305175 (doubleUnit * 1 * 1) 78 (lit≤ tt) (lit≤ tt) (λ h. lit< tt);
-}
-
 pub ramp-claims : RampClaims
 ramp-claims = record {
   whole = λ v l endless n a. rw (taken-is v l endless n a) (whole-figures v l endless n a);
@@ -158,5 +144,4 @@ ramp-claims = record {
   l-0 = λ v endless n. l-0 v endless n (cases v 0 endless n);
   slips-by = slips-by;
   outcome = outcome;
-  table = table;
 }

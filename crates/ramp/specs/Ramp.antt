@@ -1,6 +1,7 @@
 -- The ramp figures, and their row of the table of outcomes. 01, "Ramp figures", "What comes back".
 -- Assumes nothing.
 use Prim.Native.Nat.{ℕ, _*_, _/_}
+use Prim.Native.String.{String}
 use mathlib.Core.Bool.{Bool, false, cond, not, _&&_}
 use lib.IntN.{pos, negsuc}
 use lib.Ieee as Ieee
@@ -66,3 +67,10 @@ codeOf Taken = 0
 codeOf RefusedV = 1
 codeOf RefusedL = 2
 codeOf RefusedN = 3
+
+-- and the name: "V, then L, then N outside the ranges"
+abbrev pub verdictName : Verdict → String
+verdictName Taken = "taken"
+verdictName RefusedV = "V outside its range"
+verdictName RefusedL = "L outside its range"
+verdictName RefusedN = "N outside its range"

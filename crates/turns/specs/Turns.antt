@@ -1,6 +1,7 @@
 -- A turn: one wait served, or one command taken. 01, "A turn".
 -- Assumes nothing.
 use Prim.Native.Nat.{ℕ}
+use Prim.Native.String.{String}
 use mathlib.Core.List.{List}
 use mathlib.Core.Bool.{Bool, true, false, cond}
 use lib.ListN.{length, take}
@@ -170,6 +171,11 @@ textAfter (Into slot) text image = paddedText (slotText image slot)
 abbrev pub directionOf : Bool → ℕ → Direction
 directionOf true f = cond (eqb f 0) Up Down
 directionOf false f = cond (eqb f 0) Down Up
+
+abbrev pub directionName : Direction → String
+directionName Up = "up"
+directionName Down = "down"
+directionName Still = "no direction"
 
 unfoldable pub actionAnswered : ℕ → Last → Action
 actionAnswered f l =
