@@ -10,7 +10,8 @@ use lib.Seq.{drop-cons, drop-drop, drop-length, getD-append-add}
 use lib.Dec.{eqb}
 use borrow.Author.Tests.{le-leb, lt-leb, eq-eqb, ne-eqb, eqb-true, eqb-false}
 use Rattle.parts.specs.Parts.{part, same}
-use Rattle.answers.specs.Packet.{slash, hostAddress, endOfText, carriageReturn, lineFeed, tail, packet, dataAt, aroundData, mostData}
+use Rattle.parts.specs.Letters.{slash, cr, lf, etx}
+use Rattle.answers.specs.Packet.{hostAddress, tail, packet, dataAt, aroundData, mostData}
 use Rattle.answers.specs.Reading.{statusIn, dataIn, framed, printable, allPrintable, goodData, goodStatus, bit, isPacket, insideOf}
 use Rattle.answers.specs.declared.Inside.the-variants.{StatusData, Neither}
 use Rattle.answers.proofs.Writing.{length-packet}
@@ -58,8 +59,8 @@ split k s h =
     three s 0 (omega arith) ∙ ap (λ (l : List ℕ). getD s 0 0 ∷ getD s 1 0 ∷ getD s 2 0 ∷ l) rest
 
 -- the bytes of the frame, tested one by one
-pub is-framed : (s : List ℕ) → aroundData ≤ length s → getD s 0 0 ≡ slash → getD s 1 0 ≡ hostAddress → getD s (length s - 3) 0 ≡ endOfText
-    → getD s (length s - 3 + 1) 0 ≡ carriageReturn → getD s (length s - 3 + 2) 0 ≡ lineFeed → framed s ≡ true
+pub is-framed : (s : List ℕ) → aroundData ≤ length s → getD s 0 0 ≡ slash → getD s 1 0 ≡ hostAddress → getD s (length s - 3) 0 ≡ etx
+    → getD s (length s - 3 + 1) 0 ≡ cr → getD s (length s - 3 + 2) 0 ≡ lf → framed s ≡ true
 unfolding framed packet dataIn
 is-framed s h a b x y z =
     let end : length s - 3 + 3 ≡ length s = omega arith in
@@ -92,11 +93,11 @@ module _ (s : List ℕ) (f : framed s ≡ true) where
       ap (λ (i : ℕ). getD s i 0) at ∙ ap (λ (l : List ℕ). getD l (length front + k) 0) framed-is ∙ getD-append-add front tail k 0
 
 -- where all bytes of the frame but the last are right, the last tells
-pub by-last : (s : List ℕ) → aroundData ≤ length s → getD s 0 0 ≡ slash → getD s 1 0 ≡ hostAddress → getD s (length s - 3) 0 ≡ endOfText
-    → getD s (length s - 3 + 1) 0 ≡ carriageReturn → eqb (getD s (length s - 3 + 2) 0) lineFeed ≡ framed s
-by-last s h a b x y = go (eqb (getD s (length s - 3 + 2) 0) lineFeed) refl
+pub by-last : (s : List ℕ) → aroundData ≤ length s → getD s 0 0 ≡ slash → getD s 1 0 ≡ hostAddress → getD s (length s - 3) 0 ≡ etx
+    → getD s (length s - 3 + 1) 0 ≡ cr → eqb (getD s (length s - 3 + 2) 0) lf ≡ framed s
+by-last s h a b x y = go (eqb (getD s (length s - 3 + 2) 0) lf) refl
   where
-    go : (t : Bool) → eqb (getD s (length s - 3 + 2) 0) lineFeed ≡ t → t ≡ framed s
+    go : (t : Bool) → eqb (getD s (length s - 3 + 2) 0) lf ≡ t → t ≡ framed s
     go true e = sym (is-framed s h a b x y (eqb-true _ _ e))
     go false e = fails (framed s) (λ f. eqb-false _ _ e (framed-last s f 2))
 

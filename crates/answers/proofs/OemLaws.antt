@@ -15,8 +15,9 @@ use Rattle.digits.specs.declared.Written.{Written}
 use Rattle.digits.specs.declared.Written.the-variants.{Past}
 use Rattle.checksum.specs.Checksum.{xor, sumFrom, checksumOf}
 use Rattle.checksum.proofs.Sums.{sum-append}
-use Rattle.answers.specs.Packet.{hostAddress, endOfText, packet, statusOf, dataAt, mostData, packetBytes}
-use Rattle.answers.specs.Oem.{startOfText, oemSum, oemTail, oemPacket, aroundOem, OemPacketIs}
+use Rattle.parts.specs.Letters.{stx, etx}
+use Rattle.answers.specs.Packet.{hostAddress, packet, statusOf, dataAt, mostData, packetBytes}
+use Rattle.answers.specs.Oem.{oemSum, oemTail, oemPacket, aroundOem, OemPacketIs}
 use Rattle.answers.specs.Oem.{oemDataIn, oemFramed, isOemPacket, oemInsideOf, readOemOf}
 use Rattle.answers.specs.Reading.{statusIn, goodStatus, goodData, foundOf, refused, toldOf}
 use Rattle.answers.specs.AnswerClaims.{ReadsAsOem, GenuineAs}
@@ -28,18 +29,18 @@ use Rattle.answers.proofs.ReadBack.{status-bits, status-good}
 
 -- the bytes from 02 to 03
 abbrev summed : ℕ → List ℕ → List ℕ
-summed status bytes = startOfText ∷ hostAddress ∷ status ∷ (bytes ++ (endOfText ∷ []))
+summed status bytes = stx ∷ hostAddress ∷ status ∷ (bytes ++ (etx ∷ []))
 
 -- the sum, as it is made of the head, the data and the 03
 pub sum-made : (status : ℕ) (bytes : List ℕ)
-    → xor (sumFrom (xor (xor startOfText hostAddress) status) bytes) endOfText ≡ oemSum status bytes
+    → xor (sumFrom (xor (xor stx hostAddress) status) bytes) etx ≡ oemSum status bytes
 unfolding oemSum checksumOf sumFrom xor
-sum-made status bytes = sym (sum-append (xor (xor startOfText hostAddress) status) bytes (endOfText ∷ []))
+sum-made status bytes = sym (sum-append (xor (xor stx hostAddress) status) bytes (etx ∷ []))
 
 -- the packet is the bytes from 02 to 03, and their sum
 packet-summed : (status : ℕ) (bytes : List ℕ) → oemPacket status bytes ≡ summed status bytes ++ (oemSum status bytes ∷ [])
 unfolding oemPacket oemTail
-packet-summed status bytes = ap (λ (l : List ℕ). startOfText ∷ hostAddress ∷ status ∷ l) (sym (append-assoc bytes (endOfText ∷ []) _))
+packet-summed status bytes = ap (λ (l : List ℕ). stx ∷ hostAddress ∷ status ∷ l) (sym (append-assoc bytes (etx ∷ []) _))
 
 -- ---- the frame
 
@@ -51,16 +52,16 @@ two s h =
     let end : suc (length s - 2 + 1) ≡ length s = omega arith in
     rw (drop-cons s (length s - 2) 0 (omega arith), one, drop-cons s (length s - 2 + 1) 0 (omega arith), end, drop-length s)
 
-module _ (s : List ℕ) (h : aroundOem ≤ length s) (a : getD s 0 0 ≡ startOfText) (b : getD s 1 0 ≡ hostAddress)
-    (x : getD s (length s - 2) 0 ≡ endOfText) where
+module _ (s : List ℕ) (h : aroundOem ≤ length s) (a : getD s 0 0 ≡ stx) (b : getD s 1 0 ≡ hostAddress)
+    (x : getD s (length s - 2) 0 ≡ etx) where
   -- all bytes but the last are those from 02 to 03
   front-is : s ≡ summed (statusIn s) (oemDataIn s) ++ (getD s (length s - 2 + 1) 0 ∷ [])
   unfolding oemDataIn
   front-is =
       split 2 s h
       ∙ rw (two s (omega arith), a, b, x)
-      (ap (λ (l : List ℕ). startOfText ∷ hostAddress ∷ statusIn s ∷ l)
-      (sym (append-assoc (oemDataIn s) (endOfText ∷ []) (getD s (length s - 2 + 1) 0 ∷ []))))
+      (ap (λ (l : List ℕ). stx ∷ hostAddress ∷ statusIn s ∷ l)
+      (sym (append-assoc (oemDataIn s) (etx ∷ []) (getD s (length s - 2 + 1) 0 ∷ []))))
 
   front-taken : take (length s - 2 + 1 - 0) (drop 0 s) ≡ summed (statusIn s) (oemDataIn s)
   front-taken =
@@ -78,7 +79,7 @@ module _ (s : List ℕ) (f : oemFramed s ≡ true) where
   pub oem-framed-long : aroundOem + length (oemDataIn s) ≡ length s
   oem-framed-long = sym (ap length oem-framed-is ∙ length-oem-packet (statusIn s) (oemDataIn s))
 
-  pub oem-framed-first : getD s 0 0 ≡ startOfText
+  pub oem-framed-first : getD s 0 0 ≡ stx
   unfolding oemPacket
   oem-framed-first = ap (λ (l : List ℕ). getD l 0 0) oem-framed-is
 
@@ -89,15 +90,15 @@ module _ (s : List ℕ) (f : oemFramed s ≡ true) where
   pub oem-framed-last : (k : ℕ) → getD s (length s - 2 + k) 0 ≡ getD (oemTail (statusIn s) (oemDataIn s)) k 0
   unfolding oemPacket
   oem-framed-last k =
-      let front : List ℕ = startOfText ∷ hostAddress ∷ statusIn s ∷ oemDataIn s in
+      let front : List ℕ = stx ∷ hostAddress ∷ statusIn s ∷ oemDataIn s in
       let at : length s - 2 + k ≡ length front + k = omega (arith, oem-framed-long) in
       ap (λ (i : ℕ). getD s i 0) at
       ∙ ap (λ (l : List ℕ). getD l (length front + k) 0) oem-framed-is
       ∙ getD-append-add front (oemTail (statusIn s) (oemDataIn s)) k 0
 
 -- where all bytes of the frame but the last are right, the last tells
-pub by-sum : (s : List ℕ) {c : ℕ} → aroundOem ≤ length s → getD s 0 0 ≡ startOfText → getD s 1 0 ≡ hostAddress
-    → getD s (length s - 2) 0 ≡ endOfText → c ≡ checksumOf (take (length s - 2 + 1 - 0) (drop 0 s))
+pub by-sum : (s : List ℕ) {c : ℕ} → aroundOem ≤ length s → getD s 0 0 ≡ stx → getD s 1 0 ≡ hostAddress
+    → getD s (length s - 2) 0 ≡ etx → c ≡ checksumOf (take (length s - 2 + 1 - 0) (drop 0 s))
     → eqb (getD s (length s - 2 + 1) 0) c ≡ oemFramed s
 unfolding oemFramed oemSum oemTail
 by-sum s {c} h a b x e = go (eqb (getD s (length s - 2 + 1) 0) c) refl

@@ -14,8 +14,9 @@ use Rattle.digits.specs.Decimal.{decimal, WrittenIs}
 use Rattle.digits.specs.declared.Written.{Written}
 use Rattle.digits.specs.declared.Written.the-variants.{Past, NoRoom}
 use Rattle.digits.proofs.Writing.{length-most, is-written, is-refused}
-use Rattle.answers.specs.Packet.{slash, hostAddress, endOfText, tail, packet, aroundData, mostData, mostDigits, numberData, PacketAs, PacketIs}
-use Rattle.answers.specs.Oem.{startOfText, oemSum, oemTail, oemPacket, aroundOem, OemPacketIs}
+use Rattle.parts.specs.Letters.{slash, stx, etx}
+use Rattle.answers.specs.Packet.{hostAddress, tail, packet, aroundData, mostData, mostDigits, numberData, PacketAs, PacketIs}
+use Rattle.answers.specs.Oem.{oemSum, oemTail, oemPacket, aroundOem, OemPacketIs}
 use Rattle.answers.specs.declared.Data.{Data}
 
 pub length-packet : (status : ℕ) (bytes : List ℕ) → length (packet status bytes) ≡ aroundData + length bytes
@@ -83,14 +84,14 @@ written {xs} {status} {bytes} {z = z} h room a b c =
 
 pub written-oem : {xs : List ℕ} {status : ℕ} {bytes x y z : List ℕ} {p q r : Bool} {sum : ℕ} → length bytes ≤ mostData
     → aroundOem + length bytes ≤ length xs → sum ≡ oemSum status bytes
-    → PutIs xs 0 (startOfText ∷ hostAddress ∷ status ∷ []) p x → PutIs x 3 bytes q y
-    → PutIs y (3 + length bytes) (endOfText ∷ sum ∷ []) r z
+    → PutIs xs 0 (stx ∷ hostAddress ∷ status ∷ []) p x → PutIs x 3 bytes q y
+    → PutIs y (3 + length bytes) (etx ∷ sum ∷ []) r z
     → OemPacketIs xs status bytes (Past (aroundOem + length bytes)) z
 unfolding oemPacket oemTail
 written-oem {xs} {status} {bytes} {z = z} {sum = sum} h room e a b c =
-    let made : z ≡ put xs 0 (startOfText ∷ hostAddress ∷ status ∷ (bytes ++ (endOfText ∷ sum ∷ []))) = whole-put (omega arith) a b c in
+    let made : z ≡ put xs 0 (stx ∷ hostAddress ∷ status ∷ (bytes ++ (etx ∷ sum ∷ []))) = whole-put (omega arith) a b c in
     let whole : z ≡ put xs 0 (oemPacket status bytes) =
-    made ∙ ap (λ (k : ℕ). put xs 0 (startOfText ∷ hostAddress ∷ status ∷ (bytes ++ (endOfText ∷ k ∷ [])))) e in
+    made ∙ ap (λ (k : ℕ). put xs 0 (stx ∷ hostAddress ∷ status ∷ (bytes ++ (etx ∷ k ∷ [])))) e in
     let long = length-oem-packet status bytes in
     is-packet {make = oemPacket} h (is-written xs 0 (oemPacket status bytes) (omega arith) (omega arith) whole)
 

@@ -5,28 +5,26 @@ use mathlib.Core.List.{List, [], _∷_, _++_}
 use mathlib.Core.Bool.{Bool, cond, _&&_}
 use lib.ListN.{length}
 use Rattle.parts.specs.Parts.{part, same}
+use Rattle.parts.specs.Letters.{stx, etx}
 use Rattle.digits.specs.declared.Written.{Written}
 use Rattle.checksum.specs.Checksum.{checksumOf}
-use Rattle.answers.specs.Packet.{hostAddress, endOfText, dataAt, PacketAs}
+use Rattle.answers.specs.Packet.{hostAddress, dataAt, PacketAs}
 use Rattle.answers.specs.Reading.{statusIn, goodStatus, goodData, toldOf}
 use Rattle.answers.specs.declared.Packet.{Packet}
 use Rattle.answers.specs.declared.Inside.{Inside}
 use Rattle.answers.specs.declared.Inside.the-variants.{StatusData, Neither}
 
-abbrev pub startOfText : ℕ
-startOfText = 2
-
 -- "the exclusive-or of all bytes from 02 to 03"
 unfoldable pub oemSum : ℕ → List ℕ → ℕ
-oemSum status bytes = checksumOf (startOfText ∷ hostAddress ∷ status ∷ (bytes ++ (endOfText ∷ [])))
+oemSum status bytes = checksumOf (stx ∷ hostAddress ∷ status ∷ (bytes ++ (etx ∷ [])))
 
 -- "03 and its checksum"
 unfoldable pub oemTail : ℕ → List ℕ → List ℕ
-oemTail status bytes = endOfText ∷ oemSum status bytes ∷ []
+oemTail status bytes = etx ∷ oemSum status bytes ∷ []
 
 -- "The answer is 02, `0`, status, data, 03 and its checksum"
 unfoldable pub oemPacket : ℕ → List ℕ → List ℕ
-oemPacket status bytes = startOfText ∷ hostAddress ∷ status ∷ (bytes ++ oemTail status bytes)
+oemPacket status bytes = stx ∷ hostAddress ∷ status ∷ (bytes ++ oemTail status bytes)
 
 -- three bytes stand before the data, two behind it
 abbrev pub aroundOem : ℕ

@@ -6,29 +6,18 @@ use mathlib.Core.Path.{_≡_}
 use lib.ListN.{length}
 use lib.Dec.{leb}
 use Rattle.parts.specs.Parts.{padded, putIn}
+use Rattle.parts.specs.Letters.{byte, slash, cr, lf, etx}
 use Rattle.digits.specs.Decimal.{decimal, writtenAt}
 use Rattle.digits.specs.declared.Written.{Written}
 use Rattle.answers.specs.declared.Data.{Data}
 
--- "Packet: `/`, `0`, status, data, 03, CR, LF": the bytes by their names
-abbrev pub slash : ℕ
-slash = 47
-
+-- "Packet: `/`, `0`, .."
 abbrev pub hostAddress : ℕ
-hostAddress = 48
-
-abbrev pub endOfText : ℕ
-endOfText = 3
-
-abbrev pub carriageReturn : ℕ
-carriageReturn = 13
-
-abbrev pub lineFeed : ℕ
-lineFeed = 10
+hostAddress = byte "0"
 
 -- 03, CR, LF
 abbrev pub tail : List ℕ
-tail = endOfText ∷ carriageReturn ∷ lineFeed ∷ []
+tail = etx ∷ cr ∷ lf ∷ []
 
 -- "`/`, `0`, status, data, 03, CR, LF"
 unfoldable pub packet : ℕ → List ℕ → List ℕ

@@ -10,7 +10,7 @@ use lib.Dec.{ltb, eqb}
 use Rattle.digits.specs.Decimal.{decimal}
 use Rattle.commands.specs.declared.Fault.{Fault}
 use Rattle.commands.specs.Table as table
-use Rattle.lines.specs.Texts.{mostBytes}
+use Rattle.parts.specs.Parts.{mostBytes}
 use Rattle.lines.specs.Bodies.{lineFault, lineCode}
 use Rattle.lines.specs.Claims.{PlacedIn}
 use Rattle.image.specs.declared.Checked.{Checked}

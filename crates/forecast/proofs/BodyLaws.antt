@@ -7,14 +7,14 @@ use native.Mathlib.Omega.{arith}
 use lib.ListN.{length, take}
 use lib.Dec.{ltb, eqb}
 use borrow.Author.Tests.{ne-eqb, ltb-false}
-use Rattle.parts.specs.Parts.{part, same}
+use Rattle.parts.specs.Parts.{part, same, mostBytes}
 use Rattle.parts.proofs.Laws.{cases}
 use Rattle.commands.specs.declared.Fault.{Fault}
 use Rattle.commands.specs.Table.{oneOf}
 use Rattle.commands.specs.Reading.{fault, readBy}
 use Rattle.lines.specs.declared.Body.{Body}
 use Rattle.lines.specs.declared.Taken.{Taken}
-use Rattle.lines.specs.Texts.{readingIn, readingBy, unplaced, faultPlaces, lineJudged, mostBytes}
+use Rattle.lines.specs.Texts.{readingIn, readingBy, unplaced, faultPlaces, lineJudged}
 use Rattle.lines.specs.Bodies.{Row, immediates, immediateIn, beginsImmediate, otherOf, bodyOf, lineOf, takenFault, bodyFault, bodyCode, lineFault}
 use Rattle.lines.specs.Loops.{Checked}
 use Rattle.lines.proofs.CodeLaws.{Code, two, TakenCode, taken-code}

@@ -15,9 +15,9 @@ use Rattle.commands.specs.Table.{oneOf}
 use Rattle.commands.specs.Writing.{spellingOf, zeroed}
 use Rattle.lines.specs.declared.Slot.{Slot}
 use Rattle.lines.specs.declared.Slot.the-variants.{NoSlot, Into}
-use Rattle.lines.specs.Texts.{mostBytes}
+use Rattle.parts.specs.Parts.{mostBytes}
+use Rattle.parts.specs.Letters.{bytes}
 use Rattle.lines.specs.Bodies.{lineFault, lineCode}
-use Rattle.lines.specs.Examples.{bytes}
 use Rattle.lines.specs.Lists.{HostList, runText, writtenOf, listCode, list, listOf}
 use Rattle.host.specs.declared.LineWritten.{LineWritten}
 use Rattle.host.specs.declared.LineWritten.the-variants.{Bytes, Refused, NoRoom}

@@ -9,7 +9,7 @@ use lib.ListN.{length, take, drop, length-take}
 use lib.Seq.{take-append-seam}
 use lib.Pow.{pow-mono}
 use borrow.Author.Tests.{leb-true, le-leb, ltb-true, le-ltb}
-use Rattle.parts.specs.Parts.{putIn}
+use Rattle.parts.specs.Parts.{putIn, mostBytes}
 use Rattle.parts.proofs.Laws.{cases, put-in-room, put-front}
 use Rattle.digits.specs.Operand.{widest}
 use Rattle.answers.specs.Packet.{statusOf, mostData, packetBytes}
@@ -21,7 +21,6 @@ use Rattle.turns.specs.declared.Core.{Core}
 use Rattle.turns.specs.Turns.{started, ended}
 use Rattle.drive.specs.Unit.{Drive}
 use Rattle.obeying.specs.declared.Obeyed.{Obeyed}
-use Rattle.lines.specs.Texts.{mostBytes}
 use Rattle.obeying.specs.declared.Tell.{Tell}
 use Rattle.obeying.specs.Obeying.{stepSize, dataOf, placeTold, loadedAs, textWritten}
 use Rattle.drive.specs.Calls.{answerTo, receivedBy, bodyBy, obeyedBy, textThen, feedOf}
