@@ -9,11 +9,12 @@ use lib.ListN.{length, getD, take, drop, length-take, length-drop, take-append-d
 use lib.Seq.{drop-cons, drop-drop, drop-length, getD-append-add}
 use lib.Dec.{eqb}
 use borrow.Author.Tests.{le-leb, lt-leb, eq-eqb, ne-eqb, eqb-true, eqb-false}
+use Rattle.parts.specs.Letters.{stx, etx, cr, lf, slash}
 use Rattle.parts.specs.Parts.{part, same}
 use Rattle.parts.proofs.Laws.{same-is, same-self}
-use Rattle.answers.specs.Packet.{slash, hostAddress, endOfText, carriageReturn, lineFeed, frameOf, tail, packet, dataAt, aroundData, mostData}
+use Rattle.answers.specs.Packet.{hostAddress, frameOf, tail, packet, dataAt, aroundData, mostData}
 use Rattle.answers.specs.Reading.{statusIn, dataIn, framedBy, framed, printable, allPrintable, goodData, goodStatus, bit, oneBy, insideBy, Roomy}
-use Rattle.answers.specs.Oem.{startOfText, oemTail, oemPacket, aroundOem}
+use Rattle.answers.specs.Oem.{oemTail, oemPacket, aroundOem}
 use Rattle.answers.specs.declared.Inside.the-variants.{StatusData, Neither}
 use Rattle.answers.proofs.Writing.{length-frame}
 
@@ -52,7 +53,7 @@ pub plain : Framing packet aroundData slash (λ _ _. tail)
 unfolding packet
 plain = record { made = λ s b. refl; long = λ s b. refl }
 
-pub oem : Framing oemPacket aroundOem startOfText oemTail
+pub oem : Framing oemPacket aroundOem stx oemTail
 unfolding oemPacket oemTail
 oem = record { made = λ s b. refl; long = λ s b. refl }
 
@@ -91,8 +92,8 @@ module _ {make : ℕ → List ℕ → List ℕ} {around start : ℕ} {back : ℕ
   roomy s e = record { head = omega (arith, g .long 0 []); whole = λ f. omega (arith, framed-long s (sym e ∙ f)) }
 
 -- the bytes of the plain frame, tested one by one
-is-framed : (s : List ℕ) → aroundData ≤ length s → getD s 0 0 ≡ slash → getD s 1 0 ≡ hostAddress → getD s (length s - 3) 0 ≡ endOfText
-    → getD s (length s - 3 + 1) 0 ≡ carriageReturn → getD s (length s - 3 + 2) 0 ≡ lineFeed → framed s ≡ true
+is-framed : (s : List ℕ) → aroundData ≤ length s → getD s 0 0 ≡ slash → getD s 1 0 ≡ hostAddress → getD s (length s - 3) 0 ≡ etx
+    → getD s (length s - 3 + 1) 0 ≡ cr → getD s (length s - 3 + 2) 0 ≡ lf → framed s ≡ true
 unfolding framedBy packet dataIn
 is-framed s h a b x y z =
     let end : length s - 3 + 3 ≡ length s = omega arith in
@@ -101,11 +102,11 @@ is-framed s h a b x y z =
     ap (λ (l : List ℕ). same s l) (sym whole) ∙ same-self s
 
 -- where all bytes of the frame but the last are right, the last tells
-pub by-last : (s : List ℕ) → aroundData ≤ length s → getD s 0 0 ≡ slash → getD s 1 0 ≡ hostAddress → getD s (length s - 3) 0 ≡ endOfText
-    → getD s (length s - 3 + 1) 0 ≡ carriageReturn → eqb (getD s (length s - 3 + 2) 0) lineFeed ≡ framed s
-by-last s h a b x y = go (eqb (getD s (length s - 3 + 2) 0) lineFeed) refl
+pub by-last : (s : List ℕ) → aroundData ≤ length s → getD s 0 0 ≡ slash → getD s 1 0 ≡ hostAddress → getD s (length s - 3) 0 ≡ etx
+    → getD s (length s - 3 + 1) 0 ≡ cr → eqb (getD s (length s - 3 + 2) 0) lf ≡ framed s
+by-last s h a b x y = go (eqb (getD s (length s - 3 + 2) 0) lf) refl
   where
-    go : (t : Bool) → eqb (getD s (length s - 3 + 2) 0) lineFeed ≡ t → t ≡ framed s
+    go : (t : Bool) → eqb (getD s (length s - 3 + 2) 0) lf ≡ t → t ≡ framed s
     go true e = sym (is-framed s h a b x y (eqb-true _ _ e))
     go false e = fails (framed s) (λ f. eqb-false _ _ e (framed-last plain s f 2))
 

@@ -8,29 +8,30 @@ use lib.ListN.{length, getD, take, drop, length-append}
 use lib.Seq.{drop-cons, drop-length, take-append-seam}
 use lib.Dec.{eqb}
 use borrow.Author.Tests.{eqb-true, eqb-false}
+use Rattle.parts.specs.Letters.{stx, etx}
 use Rattle.parts.specs.Parts.{same}
 use Rattle.parts.proofs.Laws.{same-self}
 use Rattle.checksum.specs.Checksum.{xor, sumFrom, checksumOf}
 use Rattle.checksum.proofs.Sums.{sum-append}
-use Rattle.answers.specs.Packet.{hostAddress, endOfText, packet}
-use Rattle.answers.specs.Oem.{startOfText, oemSum, oemTail, oemPacket, aroundOem, oemFramed}
+use Rattle.answers.specs.Packet.{hostAddress, packet}
+use Rattle.answers.specs.Oem.{oemSum, oemTail, oemPacket, aroundOem, oemFramed}
 use Rattle.answers.specs.Reading.{statusIn, dataIn, framedBy}
 use Rattle.answers.proofs.Framing.{fails, split, oem, framed-last}
 
 -- the bytes from 02 to 03
 abbrev summed : ℕ → List ℕ → List ℕ
-summed status bytes = startOfText ∷ hostAddress ∷ status ∷ (bytes ++ (endOfText ∷ []))
+summed status bytes = stx ∷ hostAddress ∷ status ∷ (bytes ++ (etx ∷ []))
 
 -- the sum, as it is made of the head, the data and the 03
 pub sum-made : (status : ℕ) (bytes : List ℕ)
-    → xor (sumFrom (xor (xor startOfText hostAddress) status) bytes) endOfText ≡ oemSum status bytes
+    → xor (sumFrom (xor (xor stx hostAddress) status) bytes) etx ≡ oemSum status bytes
 unfolding oemSum checksumOf sumFrom xor
-sum-made status bytes = sym (sum-append (xor (xor startOfText hostAddress) status) bytes (endOfText ∷ []))
+sum-made status bytes = sym (sum-append (xor (xor stx hostAddress) status) bytes (etx ∷ []))
 
 -- the packet is the bytes from 02 to 03, and their sum
 packet-summed : (status : ℕ) (bytes : List ℕ) → oemPacket status bytes ≡ summed status bytes ++ (oemSum status bytes ∷ [])
 unfolding oemPacket oemTail
-packet-summed status bytes = ap (λ (l : List ℕ). startOfText ∷ hostAddress ∷ status ∷ l) (sym (append-assoc bytes (endOfText ∷ []) _))
+packet-summed status bytes = ap (λ (l : List ℕ). stx ∷ hostAddress ∷ status ∷ l) (sym (append-assoc bytes (etx ∷ []) _))
 
 -- ---- the frame
 
@@ -42,16 +43,16 @@ two s h =
     let end : suc (length s - 2 + 1) ≡ length s = omega arith in
     rw (drop-cons s (length s - 2) 0 (omega arith), one, drop-cons s (length s - 2 + 1) 0 (omega arith), end, drop-length s)
 
-module _ (s : List ℕ) (h : aroundOem ≤ length s) (a : getD s 0 0 ≡ startOfText) (b : getD s 1 0 ≡ hostAddress)
-    (x : getD s (length s - 2) 0 ≡ endOfText) where
+module _ (s : List ℕ) (h : aroundOem ≤ length s) (a : getD s 0 0 ≡ stx) (b : getD s 1 0 ≡ hostAddress)
+    (x : getD s (length s - 2) 0 ≡ etx) where
   -- all bytes but the last are those from 02 to 03
   front-is : s ≡ summed (statusIn s) (dataIn aroundOem s) ++ (getD s (length s - 2 + 1) 0 ∷ [])
   unfolding dataIn
   front-is =
       split 2 s h
       ∙ rw (two s (omega arith), a, b, x)
-      (ap (λ (l : List ℕ). startOfText ∷ hostAddress ∷ statusIn s ∷ l)
-      (sym (append-assoc (dataIn aroundOem s) (endOfText ∷ []) (getD s (length s - 2 + 1) 0 ∷ []))))
+      (ap (λ (l : List ℕ). stx ∷ hostAddress ∷ statusIn s ∷ l)
+      (sym (append-assoc (dataIn aroundOem s) (etx ∷ []) (getD s (length s - 2 + 1) 0 ∷ []))))
 
   front-taken : take (length s - 2 + 1 - 0) (drop 0 s) ≡ summed (statusIn s) (dataIn aroundOem s)
   front-taken =
@@ -61,8 +62,8 @@ module _ (s : List ℕ) (h : aroundOem ≤ length s) (a : getD s 0 0 ≡ startOf
       rw at (ap (take (length front)) front-is ∙ take-append-seam front _)
 
 -- where all bytes of the frame but the last are right, the last tells
-pub by-sum : (s : List ℕ) {c : ℕ} → aroundOem ≤ length s → getD s 0 0 ≡ startOfText → getD s 1 0 ≡ hostAddress
-    → getD s (length s - 2) 0 ≡ endOfText → c ≡ checksumOf (take (length s - 2 + 1 - 0) (drop 0 s))
+pub by-sum : (s : List ℕ) {c : ℕ} → aroundOem ≤ length s → getD s 0 0 ≡ stx → getD s 1 0 ≡ hostAddress
+    → getD s (length s - 2) 0 ≡ etx → c ≡ checksumOf (take (length s - 2 + 1 - 0) (drop 0 s))
     → eqb (getD s (length s - 2 + 1) 0) c ≡ oemFramed s
 unfolding framedBy oemSum oemTail
 by-sum s {c} h a b x e = go (eqb (getD s (length s - 2 + 1) 0) c) refl

@@ -3,26 +3,24 @@
 use Prim.Native.Nat.{ℕ}
 use mathlib.Core.List.{List, [], _∷_, _++_}
 use mathlib.Core.Bool.{Bool}
+use Rattle.parts.specs.Letters.{stx, etx}
 use Rattle.digits.specs.declared.Written.{Written}
 use Rattle.checksum.specs.Checksum.{checksumOf}
-use Rattle.answers.specs.Packet.{hostAddress, endOfText, frameOf, PacketAs}
+use Rattle.answers.specs.Packet.{hostAddress, frameOf, PacketAs}
 use Rattle.answers.specs.Reading.{framedBy, oneBy, insideBy, toldOf}
 use Rattle.answers.specs.declared.Packet.{Packet}
 
-abbrev pub startOfText : ℕ
-startOfText = 2
-
 -- "the exclusive-or of all bytes from 02 to 03"
 unfoldable pub oemSum : ℕ → List ℕ → ℕ
-oemSum status bytes = checksumOf (startOfText ∷ hostAddress ∷ status ∷ (bytes ++ (endOfText ∷ [])))
+oemSum status bytes = checksumOf (stx ∷ hostAddress ∷ status ∷ (bytes ++ (etx ∷ [])))
 
 -- "03 and its checksum"
 unfoldable pub oemTail : ℕ → List ℕ → List ℕ
-oemTail status bytes = endOfText ∷ oemSum status bytes ∷ []
+oemTail status bytes = etx ∷ oemSum status bytes ∷ []
 
 -- "The answer is 02, `0`, status, data, 03 and its checksum"
 unfoldable pub oemPacket : ℕ → List ℕ → List ℕ
-oemPacket status bytes = frameOf startOfText (oemTail status bytes) status bytes
+oemPacket status bytes = frameOf stx (oemTail status bytes) status bytes
 
 -- three bytes stand before the data, two behind it
 abbrev pub aroundOem : ℕ

@@ -6,25 +6,14 @@ use mathlib.Core.Path.{_≡_}
 use lib.ListN.{length}
 use lib.Dec.{leb}
 use Rattle.parts.specs.Parts.{padded, putIn}
+use Rattle.parts.specs.Letters.{byte, slash, cr, lf, etx}
 use Rattle.digits.specs.Decimal.{decimal, writtenAt}
 use Rattle.digits.specs.declared.Written.{Written}
 use Rattle.answers.specs.declared.Data.{Data}
 
--- "Packet: `/`, `0`, status, data, 03, CR, LF": the bytes by their names
-abbrev pub slash : ℕ
-slash = 47
-
+-- "Packet: `/`, `0`, .."
 abbrev pub hostAddress : ℕ
-hostAddress = 48
-
-abbrev pub endOfText : ℕ
-endOfText = 3
-
-abbrev pub carriageReturn : ℕ
-carriageReturn = 13
-
-abbrev pub lineFeed : ℕ
-lineFeed = 10
+hostAddress = byte "0"
 
 -- a packet of either framing: its first byte and its tail stand around "`0`, status, data"
 abbrev pub frameOf : ℕ → List ℕ → ℕ → List ℕ → List ℕ
@@ -32,7 +21,7 @@ frameOf start back status bytes = start ∷ hostAddress ∷ status ∷ (bytes ++
 
 -- 03, CR, LF
 abbrev pub tail : List ℕ
-tail = endOfText ∷ carriageReturn ∷ lineFeed ∷ []
+tail = etx ∷ cr ∷ lf ∷ []
 
 -- "`/`, `0`, status, data, 03, CR, LF"
 unfoldable pub packet : ℕ → List ℕ → List ℕ

@@ -9,13 +9,14 @@ use lib.ListN.{length}
 use lib.Seq.{take-all}
 use borrow.Author.Tests.{le-ltb}
 use Rattle.parts.proofs.Laws.{cases}
+use Rattle.parts.specs.Letters.{cr, etx}
 use Rattle.lines.proofs.TakenLaws.{no}
 use Rattle.image.specs.Image.{rightLength}
 use Rattle.answers.specs.Packet.{packetBytes}
 use Rattle.frames.specs.declared.Frame.{Frame}
 use Rattle.frames.specs.declared.Framing.{Framing}
 use Rattle.frames.specs.Addresses.{isUnit, unitByte, calledOf}
-use Rattle.frames.specs.Receive.{mostKept, bodyIn, cr, etx, obeyed, good}
+use Rattle.frames.specs.Receive.{mostKept, bodyIn, obeyed, good}
 use Rattle.frames.specs.Claims.{Sound, Whole, free, frameOf, oemOf, sumOf, FrameClaims}
 use Rattle.obeying.specs.declared.Obeyed.{Obeyed}
 use Rattle.obeying.specs.Obeying.{bodyObeyed}

@@ -9,12 +9,12 @@ use native.Mathlib.Omega.{arith}
 use lib.ListN.{length, drop}
 use lib.Dec.{eqb}
 use borrow.Author.Tests.{lt-ltb, le-ltb, le-leb, eq-eqb, ne-eqb}
-use Rattle.parts.specs.Parts.{putIn}
+use Rattle.parts.specs.Parts.{putIn, mostBytes}
 use Rattle.parts.proofs.Laws.{put-front, put-in-room}
 use Rattle.digits.specs.Operand.{operandMost, fewDigits}
 use Rattle.commands.specs.Table as table
 use Rattle.commands.proofs.TableLaws.{each, each-one}
-use Rattle.lines.specs.Texts.{mostBytes, textGood, olderGood}
+use Rattle.lines.specs.Texts.{textGood, olderGood}
 use Rattle.lines.proofs.FewLaws.{good-now}
 use Rattle.frames.specs.declared.Frame.{Frame}
 use Rattle.frames.specs.declared.Framing.{Framing}

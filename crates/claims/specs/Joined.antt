@@ -6,11 +6,12 @@ use mathlib.Core.List.{List, []}
 use mathlib.Core.Bool.{true, false, not, cond}
 use lib.ListN.{length}
 use Rattle.commands.specs.Table.{oneOf}
-use Rattle.lines.specs.Texts.{mostBytes}
+use Rattle.parts.specs.Parts.{mostBytes}
+use Rattle.parts.specs.Letters.{cr, etx}
 use Rattle.image.specs.Image.{rightLength}
 use Rattle.frames.specs.declared.Framing.{Framing}
 use Rattle.frames.specs.Addresses.{isUnit, unitByte}
-use Rattle.frames.specs.Receive.{cr, etx, obeyed, good, elsewhere}
+use Rattle.frames.specs.Receive.{obeyed, good, elsewhere}
 use Rattle.frames.specs.Claims.{Sound, free, frameOf, oemOf, sumOf}
 use Rattle.answers.specs.Packet.{packetBytes, statusOf}
 use Rattle.obeying.specs.Obeying.{bodyObeyed}

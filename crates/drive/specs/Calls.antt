@@ -15,7 +15,7 @@ use Rattle.turns.specs.declared.Core.{Core}
 use Rattle.turns.specs.declared.Action.{Action}
 use Rattle.turns.specs.declared.Direction.{Direction}
 use Rattle.turns.specs.declared.Stepped.{Stepped}
-use Rattle.turns.specs.Turns.{freshCore, started, ended, turnCore, textAfter, actionAnswered}
+use Rattle.turns.specs.Turns.{freshCore, started, ended, slotBroken, turnCore, textAfter, actionAnswered}
 use Rattle.answers.specs.Packet.{packet, packetBytes, statusOf}
 use Rattle.answers.specs.Oem.{oemPacket}
 use Rattle.obeying.specs.declared.Obeyed.{Obeyed}
@@ -48,7 +48,7 @@ begunWith n = cond (ltb 0 n) (started n freshCore) freshCore
 -- leaves it idle, the current text empty, holding 1"
 abbrev pub begunOn : Bool → ℕ → Core
 begunOn true n = begunWith n
-begunOn false n = ended 1 freshCore
+begunOn false n = ended slotBroken freshCore
 
 unfoldable pub freshUnit : ℕ → List ℕ → List ℕ → Drive
 freshUnit number image body =

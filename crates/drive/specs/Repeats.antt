@@ -4,12 +4,14 @@ use Prim.Native.Nat.{ℕ, _%_}
 use mathlib.Core.List.{List, []}
 use mathlib.Core.Bool.{Bool, true, false, cond, not, _&&_, _||_}
 use lib.Dec.{leb, eqb}
+use Rattle.commands.specs.Reading.{malformed, outOfRange}
 use Rattle.lines.specs.declared.Immediate.{Immediate}
 use Rattle.lines.specs.declared.Immediate.the-variants.{Terminate, Status, CurrentText, Position, Speed, Sample, EndlessSpeed, StepSize, Correction, Clear}
 use Rattle.lines.specs.declared.Body.{Body}
 use Rattle.lines.specs.Bodies.{bodyOf}
 use Rattle.frames.specs.declared.Frame.{Frame}
 use Rattle.frames.specs.declared.Framing.{Framing}
+use Rattle.obeying.specs.Obeying.{busy}
 use Rattle.drive.specs.declared.Last.{Last}
 
 -- "a number in its low three bits, with bit 3 for a repeat"
@@ -55,7 +57,7 @@ chosen last g body = cond (isRepeat last g) (cond (isQuery body) body []) body
 
 -- "refused" with 2, 3 or 15
 abbrev pub isRefusal : ℕ → Bool
-isRefusal code = eqb code 2 || eqb code 3 || eqb code 15
+isRefusal code = eqb code malformed || eqb code outOfRange || eqb code busy
 
 -- "the last OEM frame for this unit or its groups not refused": its number; a plain one leaves it
 abbrev pub numberedBy : Framing → ℕ → Last → Last

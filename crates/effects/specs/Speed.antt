@@ -7,9 +7,9 @@ use mathlib.Core.Bool.{Bool, true}
 use lib.ListN.{length}
 use Rattle.digits.specs.Decimal.{decimal}
 use Rattle.digits.specs.ReadBack.{spelling}
-use Rattle.lines.specs.Examples.{bytes}
+use Rattle.parts.specs.Letters.{bytes}
+use Rattle.parts.specs.Parts.{mostBytes}
 use Rattle.digits.specs.Operand.{operandMost}
-use Rattle.lines.specs.Texts.{mostBytes}
 use Rattle.image.specs.Image.{rightLength}
 use Rattle.answers.specs.Packet.{packetBytes}
 use Rattle.frames.specs.Receive.{obeyed}

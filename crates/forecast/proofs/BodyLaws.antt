@@ -13,7 +13,7 @@ use Rattle.commands.specs.Table.{oneOf}
 use Rattle.commands.specs.Reading.{readBy}
 use Rattle.lines.specs.declared.Body.{Body}
 use Rattle.lines.specs.declared.Taken.{Taken}
-use Rattle.lines.specs.Texts.{readingIn, readingBy, unplaced, faultPlaces, lineJudged, mostBytes}
+use Rattle.lines.specs.Texts.{readingIn, readingBy, unplaced, faultPlaces, lineJudged}
 use Rattle.lines.specs.Bodies.{Row, immediates, immediateIn, beginsImmediate, otherOf, bodyOf, lineOf, takenFault, bodyFault, bodyCode, lineFault}
 use Rattle.lines.specs.Loops.{Checked}
 use Rattle.lines.proofs.CodeLaws.{Code, two, TakenCode, taken-code}

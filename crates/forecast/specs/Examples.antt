@@ -4,7 +4,7 @@ use Prim.Native.String as Text
 use mathlib.Core.List.{List, [], _∷_, _++_}
 use lib.ListN.{replicate}
 use Rattle.commands.specs.Reading.{fault}
-use Rattle.lines.specs.Examples.{bytes}
+use Rattle.parts.specs.Letters.{byte, bytes}
 use Rattle.forecast.specs.declared.Counted.{Counted}
 use Rattle.forecast.specs.declared.Counted.the-variants.{Commands, Refused, Letter, TooMany}
 use Rattle.forecast.specs.Count.{countOf}
@@ -71,7 +71,7 @@ examples =
     ∷ example "s16P0R" (Refused (fault 3 1))
     ∷ example "s3P0" (Refused (fault 2 5))
     ∷ example "?1" (Refused (fault 2 1))
-    ∷ record { body = 65 ∷ (replicate 255 48 ++ bytes "R"); gives = Refused (fault 2 0) }
+    ∷ record { body = byte "A" ∷ (replicate 255 (byte "0") ++ bytes "R"); gives = Refused (fault 2 0) }
     -- "then a count over": the letter stands before it or behind it
     ∷ example "D0ggggA1A1A1A1A1A1A1A1A1A1A1G30000G30000G30000G30000R" Letter
     ∷ example "ggggA1A1A1A1A1A1A1A1A1A1A1G30000G30000G30000G30000HR" Letter

@@ -16,7 +16,8 @@ use Rattle.frames.specs.declared.Place.{Place}
 use Rattle.frames.specs.declared.Frame.{Frame}
 use Rattle.frames.specs.declared.Framing.{Framing}
 use Rattle.frames.specs.Addresses.{calledOf}
-use Rattle.frames.specs.Receive.{Receiver, Received, slash, cr, stx, etx, mostKept, obeyed, placed, Stepped, quiet, finished}
+use Rattle.parts.specs.Letters.{slash, cr, stx, etx}
+use Rattle.frames.specs.Receive.{Receiver, Received, mostKept, obeyed, placed, Stepped, quiet, finished}
 use Rattle.frames.specs.Receive.{begun, stored, heard, begunOem, storedFor, taken, begins, stepOf}
 use Rattle.frames.specs.Receive.{past, onward, receiveOf}
 use Rattle.frames.specs.Claims.{free, oemOf, sumOf, Sound, inBody, SameBody, Alike, Same}

@@ -17,7 +17,8 @@ use Rattle.frames.specs.declared.Place.{Place}
 use Rattle.frames.specs.declared.Frame.{Frame}
 use Rattle.frames.specs.declared.Framing.{Framing}
 use Rattle.frames.specs.Addresses.{unitByte, calledOf}
-use Rattle.frames.specs.Receive.{Receiver, Received, slash, cr, stx, etx, mostKept, bodyIn, obeyed, receiverAt, placed, quiet, finished}
+use Rattle.parts.specs.Letters.{slash, cr, stx, etx}
+use Rattle.frames.specs.Receive.{Receiver, Received, mostKept, bodyIn, obeyed, receiverAt, placed, quiet, finished}
 use Rattle.frames.specs.Receive.{begun, stored, good, heard, begunOem, elsewhere, stepOf, past, ended, receiveOf}
 use Rattle.frames.specs.Pieces.{completed}
 use Rattle.frames.specs.Claims.{free, frameOf, oemOf, sumOf, Sound, Whole, Skipped}

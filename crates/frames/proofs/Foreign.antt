@@ -13,7 +13,8 @@ use Rattle.frames.specs.declared.Place.{Place}
 use Rattle.frames.specs.declared.Frame.{Frame}
 use Rattle.frames.specs.declared.Framing.{Framing}
 use Rattle.frames.specs.Addresses.{calledOf}
-use Rattle.frames.specs.Receive.{Receiver, Received, slash, cr, stx, etx, placed, Stepped, quiet, heard, elsewhere, stepOf}
+use Rattle.parts.specs.Letters.{slash, cr, stx, etx}
+use Rattle.frames.specs.Receive.{Receiver, Received, placed, Stepped, quiet, heard, elsewhere, stepOf}
 use Rattle.frames.specs.Receive.{past, ended, receiveOf}
 use Rattle.frames.specs.Claims.{free, sumOf, Foreign, unmoved}
 use Rattle.frames.proofs.Bools.{cases}

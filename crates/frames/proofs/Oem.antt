@@ -14,7 +14,8 @@ use Rattle.frames.specs.declared.Place.{Place}
 use Rattle.frames.specs.declared.Frame.{Frame}
 use Rattle.frames.specs.declared.Framing.{Framing}
 use Rattle.frames.specs.Addresses.{calledOf}
-use Rattle.frames.specs.Receive.{Receiver, Received, stx, etx, placed, quiet, finished, storedFor, heard}
+use Rattle.parts.specs.Letters.{stx, etx}
+use Rattle.frames.specs.Receive.{Receiver, Received, placed, quiet, finished, storedFor, heard}
 use Rattle.frames.specs.Receive.{begunOem, elsewhere, past, ended, onward, Stepped, receiveOf}
 use Rattle.frames.specs.Claims.{free, oemOf, sumOf}
 use Rattle.frames.proofs.Bools.{cases}

@@ -9,7 +9,8 @@ use lib.Dec.{eqb}
 use borrow.Author.Tests.{lt-ltb, le-ltb}
 use Rattle.frames.specs.declared.Place.{Place}
 use Rattle.frames.specs.declared.Frame.{Frame}
-use Rattle.frames.specs.Receive.{Stepped, receiverAt, slash, cr, stx, mostKept, obeyed, quiet, stored, stepOf}
+use Rattle.parts.specs.Letters.{slash, cr, stx}
+use Rattle.frames.specs.Receive.{Stepped, receiverAt, mostKept, obeyed, quiet, stored, stepOf}
 use Rattle.frames.specs.Pieces.{completed, leavesBody, inPlain, isOutside}
 use Rattle.frames.proofs.Steps.{step-plain, step-inside}
 

@@ -14,7 +14,8 @@ use Rattle.frames.specs.declared.Place.{Place}
 use Rattle.frames.specs.declared.Frame.{Frame}
 use Rattle.frames.specs.declared.Framing.{Framing}
 use Rattle.frames.specs.Addresses.{calledOf}
-use Rattle.frames.specs.Receive.{Receiver, slash, cr, stx, etx, mostKept, obeyed, placed, Stepped, quiet, finished, begun, stored}
+use Rattle.parts.specs.Letters.{slash, cr, stx, etx}
+use Rattle.frames.specs.Receive.{Receiver, mostKept, obeyed, placed, Stepped, quiet, finished, begun, stored}
 use Rattle.frames.specs.Receive.{closed, heard, begunOem, storedFor, taken, elsewhere, begins, stepOf}
 use Rattle.frames.specs.Pieces.{completed, inPlain}
 use Rattle.frames.specs.Claims.{free, Sound, Ends}

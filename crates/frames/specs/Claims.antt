@@ -13,7 +13,8 @@ use Rattle.frames.specs.declared.Framing.{Framing}
 use Rattle.frames.specs.declared.Heard.{Heard}
 use Rattle.frames.specs.declared.Progress.{Progress}
 use Rattle.frames.specs.Addresses.{isUnit, unitByte, pairs, fours, all, isIn, calledOf}
-use Rattle.frames.specs.Receive.{slash, cr, stx, etx, mostKept, Receiver, Received, receiverOf, heardWith, bodyIn}
+use Rattle.parts.specs.Letters.{slash, cr, stx, etx}
+use Rattle.frames.specs.Receive.{mostKept, Receiver, Received, receiverOf, heardWith, bodyIn}
 use Rattle.frames.specs.Receive.{freshProgress, obeyed, placed, quiet, good, heard, elsewhere, stepOf, past, receiveOf}
 
 -- the units 1 to 16, in twos and in fours

@@ -11,7 +11,8 @@ use Rattle.frames.specs.declared.Frame.{Frame}
 use Rattle.frames.specs.declared.Framing.{Framing}
 use Rattle.frames.specs.declared.Head.{Head}
 use Rattle.frames.specs.declared.Advanced.{Advanced}
-use Rattle.frames.specs.Receive.{Receiver, Received, Stepped, receiverAt, slash, cr, stx, obeyed, placed, quiet, stored, closed, past, receiveOf}
+use Rattle.parts.specs.Letters.{slash, cr, stx}
+use Rattle.frames.specs.Receive.{Receiver, Received, Stepped, receiverAt, obeyed, placed, quiet, stored, closed, past, receiveOf}
 
 -- what a CR completes
 abbrev pub completed : Place → Frame

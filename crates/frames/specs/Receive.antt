@@ -5,6 +5,8 @@ use mathlib.Core.List.{List, [], _∷_}
 use mathlib.Core.Bool.{Bool, true, false, cond, _&&_}
 use lib.ListN.{set, take}
 use lib.Dec.{ltb, leb, eqb}
+use Rattle.parts.specs.Parts.{mostBytes}
+use Rattle.parts.specs.Letters.{slash, cr, stx, etx}
 use Rattle.checksum.specs.Checksum.{xor}
 use Rattle.frames.specs.declared.Place.{Place}
 use Rattle.frames.specs.declared.Frame.{Frame}
@@ -13,23 +15,9 @@ use Rattle.frames.specs.declared.Progress.{Progress}
 use Rattle.frames.specs.declared.Heard.{Heard}
 use Rattle.frames.specs.Addresses.{calledOf}
 
--- "A frame is `/`, an address byte, a body, CR"
-abbrev pub slash : ℕ
-slash = 47
-
-abbrev pub cr : ℕ
-cr = 13
-
--- "the OEM frame: 02, address, sequence byte, body, 03, then the exclusive-or of all bytes from 02 to 03"
-abbrev pub stx : ℕ
-stx = 0x02
-
-abbrev pub etx : ℕ
-etx = 0x03
-
 -- "The body has 0 to 256 bytes": one byte more is kept, so that a longer one is seen to be over-long
 abbrev pub mostKept : ℕ
-mostKept = 257
+mostKept = mostBytes + 1
 
 -- "A group frame is obeyed and never answered"
 abbrev pub obeyed : Frame → Bool

@@ -9,8 +9,9 @@ use native.Mathlib.Decide.{decLt}
 use lib.ListN.{length, getD, take, length-append, List·getD-append}
 use lib.Dec.{ltb, eqb}
 use borrow.Author.Tests.{lt-ltb, le-ltb, leb-true, leb-false, eqb-true, eqb-false, ne-eqb}
-use Rattle.parts.specs.Parts.{room, put, same}
+use Rattle.parts.specs.Parts.{room, put, same, mostBytes}
 use Rattle.parts.proofs.Laws.{take-put, drop-put, length-put, put-front}
+use Rattle.parts.specs.Letters.{bytes}
 use Rattle.digits.specs.Decimal.{digitsIn, digitsOf, ascii, decimal}
 use Rattle.digits.proofs.Writing.{decimal-last, decimal-more, length-some}
 use Rattle.commands.specs.declared.Command.{Command}
@@ -19,9 +20,8 @@ use Rattle.commands.specs.Table.{oneOf, table, find, commandOf}
 use Rattle.commands.specs.Writing.{twoDigits, spelled}
 use Rattle.commands.proofs.WritingLaws.{letter-written, spelling-some}
 use Rattle.lines.specs.declared.Slot.the-variants.{NoSlot, Into}
-use Rattle.lines.specs.Texts.{mostBytes, structured}
+use Rattle.lines.specs.Texts.{structured}
 use Rattle.lines.specs.Bodies.{bodyOf, lineCode}
-use Rattle.lines.specs.Examples.{bytes}
 use Rattle.lines.specs.Lists.{HostList, slotText, commandsText, runText, writtenOf, allInRange, listFault, listCode, list, listOf}
 use Rattle.lines.proofs.ListLaws.{list-law, list-back}
 use Rattle.lines.proofs.CodeLaws.{codes}
@@ -235,11 +235,11 @@ with-two-digits l n e h =
 -- ---- lists and their bodies
 
 pub k8-written : writtenOf k8List ≡ bytes "gA0S03e0G0R"
-unfolding writtenOf commandsText spelled twoDigits decimal ascii digitsOf digitsIn bytes
+unfolding writtenOf commandsText spelled twoDigits decimal ascii digitsOf digitsIn
 k8-written = refl
 
 pub slot-written : writtenOf slotList ≡ bytes "s15H02R"
-unfolding writtenOf commandsText spelled twoDigits decimal ascii digitsOf digitsIn bytes
+unfolding writtenOf commandsText spelled twoDigits decimal ascii digitsOf digitsIn
 slot-written = refl
 
 -- ---- no leading zero

@@ -5,6 +5,7 @@ use mathlib.Core.List.{List, [], _∷_, _++_}
 use mathlib.Core.Bool.{Bool, true, false, cond}
 use mathlib.Core.Path.{_≡_}
 use lib.ListN.{length, getD, take, drop}
+use Rattle.parts.specs.Letters.{bytes}
 use Rattle.digits.specs.Decimal.{decimal}
 use Rattle.commands.specs.declared.Command.{Command}
 use Rattle.commands.specs.declared.Fault.{Fault}
@@ -15,7 +16,6 @@ use Rattle.commands.specs.Writing.{spelled}
 use Rattle.lines.specs.declared.Slot.{Slot}
 use Rattle.lines.specs.declared.Slot.the-variants.{NoSlot, Into}
 use Rattle.lines.specs.Bodies.{lineFault, lineCode}
-use Rattle.lines.specs.Examples.{bytes}
 use Rattle.lines.specs.Lists.{HostList, writtenOf, listCode, list, listOf}
 use Rattle.host.specs.declared.LineWritten.{LineWritten}
 use Rattle.host.specs.declared.LineWritten.the-variants.{Bytes, Refused, NoRoom}

@@ -7,12 +7,11 @@ use mathlib.Core.Bool.{Bool, cond}
 use mathlib.Core.Path.{_≡_}
 use lib.ListN.{length, take}
 use lib.Dec.{ltb, eqb}
-use Rattle.parts.specs.Parts.{room, put}
+use Rattle.parts.specs.Parts.{room, put, mostBytes}
 use Rattle.commands.specs.declared.Command.{Command}
 use Rattle.commands.specs.declared.Fault.{Fault}
 use Rattle.commands.specs.Reading.{fault}
 use Rattle.lines.specs.declared.Slot.{Slot}
-use Rattle.lines.specs.Texts.{mostBytes}
 use Rattle.lines.specs.Bodies.{lineFault}
 use Rattle.lines.specs.Lists.{HostList, writtenOf, listCode}
 use Rattle.host.specs.declared.LineWritten.{LineWritten}

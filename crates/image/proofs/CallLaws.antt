@@ -8,8 +8,9 @@ use lib.Dec.{ltb, leb, eqb}
 use lib.ListN.{length, drop}
 use borrow.Author.Tests.{eq-eqb, ne-eqb, lt-ltb, le-leb, eqb-true, ltb-true, leb-true}
 use Rattle.parts.proofs.Laws.{cases}
+use Rattle.parts.specs.Parts.{mostBytes}
 use Rattle.digits.specs.Operand.{operandMost, fewDigits}
-use Rattle.lines.specs.Texts.{mostBytes, olderGood}
+use Rattle.lines.specs.Texts.{olderGood}
 use Rattle.lines.proofs.FewLaws.{good-now}
 use Rattle.image.specs.Image.{imageBytes, rightLength, slots, bodyBytes, startIn, lengthIn, startOf, entryOf, bodyOf, zeros, goodAt, hasSlot, slotBy, slotGood, slotsBy, withText, emptyImage}
 use Rattle.image.specs.declared.Checked.{Checked}

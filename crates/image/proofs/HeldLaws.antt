@@ -8,11 +8,11 @@ use lib.Dec.{leb}
 use lib.ListN.{length, drop, replicate}
 use lib.Seq.{drop-at}
 use borrow.Author.Tests.{leb-true}
-use Rattle.parts.specs.Parts.{padded}
+use Rattle.parts.specs.Parts.{padded, mostBytes}
 use Rattle.parts.proofs.Laws.{cases, take-padded}
 use Rattle.digits.specs.Operand.{operandMost}
 use Rattle.commands.specs.Reading.{readBy}
-use Rattle.lines.specs.Texts.{readingIn, readingBy, faultPlaces, fifteenth, storedPlaces, storedBy, storedJudged, passed, mostBytes, textGoodBy, textGood}
+use Rattle.lines.specs.Texts.{readingIn, readingBy, faultPlaces, fifteenth, storedPlaces, storedBy, storedJudged, passed, textGoodBy, textGood}
 use Rattle.image.specs.Image.{imageBytes, slots, entryOf, bodyBytes, startIn, lengthIn, startOf, word, wordAt, bodyOf, zeros, slotGood, slotText, entryFor}
 use Rattle.image.specs.Claims.{Holds}
 use Rattle.image.proofs.SlotLaws.{and-left, good-rest, slot-judged, sound}

@@ -7,7 +7,7 @@ use mathlib.Core.Bool.{Bool, cond}
 use lib.ListN.{length}
 use lib.Dec.{ltb, leb}
 use Rattle.digits.specs.Operand.{operandMost}
-use Rattle.lines.specs.Texts.{mostBytes}
+use Rattle.parts.specs.Parts.{mostBytes}
 use Rattle.image.specs.Image.{rightLength, slots, bodyBytes, slotsBy, withText, emptyImage}
 use Rattle.image.specs.declared.Checked.{Checked}
 use Rattle.image.specs.declared.Stored.{Stored}

@@ -5,9 +5,9 @@ use mathlib.Core.Path.{_≡_}
 use mathlib.Core.List.{List, []}
 use mathlib.Core.Bool.{Bool, true, _&&_}
 use lib.ListN.{length, getD, take}
-use Rattle.parts.specs.Parts.{padded}
+use Rattle.parts.specs.Parts.{padded, mostBytes}
 use Rattle.digits.specs.Operand.{operandMost, fewDigits}
-use Rattle.lines.specs.Texts.{mostBytes, textGood}
+use Rattle.lines.specs.Texts.{textGood}
 use Rattle.image.specs.Image.{imageBytes, rightLength, slots, entryBytes, bodyBytes, contentsBytes, byteValues, lengthIn, startOf}
 use Rattle.image.specs.Image.{entryOf, bodyOf, slotBy, slotGood, slotText, entryFor}
 use Rattle.image.specs.declared.Checked.{Checked}

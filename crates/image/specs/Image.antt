@@ -5,9 +5,9 @@ use mathlib.Core.List.{List, [], _∷_, _++_}
 use mathlib.Core.Bool.{Bool, true, cond, _&&_}
 use lib.ListN.{length, getD, take, drop}
 use lib.Dec.{ltb, leb, eqb}
-use Rattle.parts.specs.Parts.{part, put, padded}
+use Rattle.parts.specs.Parts.{part, put, padded, mostBytes}
 use Rattle.digits.specs.Operand.{operandMost}
-use Rattle.lines.specs.Texts.{mostBytes, textGoodBy}
+use Rattle.lines.specs.Texts.{textGoodBy}
 
 -- "4,160 bytes"
 abbrev pub imageBytes : ℕ

@@ -8,10 +8,9 @@ use lib.Dec.{ltb}
 use lib.ListN.{length, take}
 use lib.Seq.{take-length}
 use borrow.Author.Tests.{ltb-false}
-use Rattle.parts.specs.Parts.{paddedText}
+use Rattle.parts.specs.Parts.{paddedText, mostBytes}
 use Rattle.parts.proofs.Laws.{cases}
 use Rattle.answers.specs.Packet.{packetBytes}
-use Rattle.lines.specs.Texts.{mostBytes}
 use Rattle.lines.specs.Loops.{Checked}
 use Rattle.lines.proofs.BodyLaws.{no-bytes}
 use Rattle.lines.proofs.TakenLaws.{text-checked}

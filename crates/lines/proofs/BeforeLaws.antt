@@ -9,7 +9,7 @@ use lib.ListN.{length, getD, take, drop, length-append, length-drop, take-append
 use lib.Seq.{drop-drop, take-at, drop-cons}
 use lib.Dec.{leb, eqb}
 use borrow.Author.Tests.{eqb-true, le-ltb}
-use Rattle.parts.specs.Parts.{part}
+use Rattle.parts.specs.Parts.{part, mostBytes}
 use Rattle.digits.specs.declared.Operand.{Operand}
 use Rattle.digits.specs.declared.Operand.the-variants.{Missing, Number, Above}
 use Rattle.digits.specs.Operand.{operandMost, operandUpTo}
@@ -28,7 +28,7 @@ use Rattle.lines.specs.declared.Body.{Body}
 use Rattle.lines.specs.declared.Taken.{Taken}
 use Rattle.lines.specs.declared.Judged.{Judged}
 use Rattle.lines.specs.declared.Judged.the-variants.{Passes, Refused}
-use Rattle.lines.specs.Texts.{Reading, commands, faulty, Placed, placed, unplaced, before, goesOn, readingFrom, structured, storable, faultPlaces, storedPlaces, refusedAt, leftmost, judged, lineJudged, storedBy, storedJudged, mostBytes}
+use Rattle.lines.specs.Texts.{Reading, commands, faulty, Placed, placed, unplaced, before, goesOn, readingFrom, structured, storable, faultPlaces, storedPlaces, refusedAt, leftmost, judged, lineJudged, storedBy, storedJudged}
 use Rattle.lines.specs.Bodies.{bodyOf, endsWithR, taken, behind, mostSlot, storeOf, storedAt, takenOf, lineOf, lineCode}
 use Rattle.lines.specs.Lists.{HostList, runText, allInRange, slotInRange, listFault, SpellsCommands, none, more, SpellsSlot, without, into, Spells, spells}
 use Rattle.lines.specs.Claims.{cutAt, ReadsBefore, Because, by-structure, by-command, by-slot}

@@ -17,7 +17,8 @@ use Rattle.commands.specs.declared.Command.{Command}
 use Rattle.commands.proofs.WritingLaws.{letter-first, spelling-no-digit, spelling-few, spelling-most}
 use Rattle.lines.specs.declared.Body.{Body}
 use Rattle.lines.specs.declared.Slot.{Slot}
-use Rattle.lines.specs.Texts.{Reading, storedPlaces, judged, passed, mostBytes, storedBy, textGoodBy, textGood, olderGood}
+use Rattle.parts.specs.Parts.{mostBytes}
+use Rattle.lines.specs.Texts.{Reading, storedPlaces, judged, passed, storedBy, textGoodBy, textGood, olderGood}
 use Rattle.lines.specs.Bodies.{bodyOf, lineOf, takenCode}
 use Rattle.lines.specs.Lists.{HostList, runText, SpellsCommands, none, more, SpellsSlot, without, into, Spells, spells}
 use Rattle.lines.specs.Loops.{Checked}

@@ -25,7 +25,7 @@ use Rattle.commands.proofs.WritingLaws.{spells-as}
 use Rattle.lines.specs.declared.Slot.the-variants.{NoSlot, Into}
 use Rattle.lines.specs.declared.Body.{Body}
 use Rattle.lines.specs.declared.Taken.{Taken}
-use Rattle.lines.specs.Texts.{commands, Placed, placed, unplaced, goesOn, readingFrom, structured, mostBytes}
+use Rattle.lines.specs.Texts.{commands, Placed, placed, unplaced, goesOn, readingFrom, structured}
 use Rattle.lines.specs.Bodies.{Row, bodyOf, beginsImmediate, immediates, immediateIn, otherOf, endsWithR, lineOf, takenCode}
 use Rattle.lines.specs.Lists.{HostList, runText, allInRange, listFault, SpellsCommands, none, more, without, into, Spells, spells, list, listOf, takenList, bodyList}
 use Rattle.lines.specs.Claims.{Spelled, SpelledAs}

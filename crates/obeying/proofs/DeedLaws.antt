@@ -8,6 +8,7 @@ use lib.Dec.{ltb, eqb}
 use lib.ListN.{length, drop}
 use borrow.Author.Tests.{ltb-true, lt-ltb, eqb-true}
 use Rattle.parts.proofs.Laws.{cases}
+use Rattle.parts.specs.Parts.{mostBytes}
 use Rattle.digits.specs.declared.Operand.{Operand}
 use Rattle.digits.specs.declared.Operand.the-variants.{Missing, Number, Above}
 use Rattle.digits.specs.Operand.{digitRun, operandAt, operandMost, operandUpTo}
@@ -19,7 +20,6 @@ use Rattle.lines.specs.declared.Immediate.{Immediate}
 use Rattle.lines.specs.declared.Immediate.the-variants.{Terminate, Status, CurrentText, Position, Speed, Sample, EndlessSpeed, StepSize, Correction, Clear}
 use Rattle.lines.specs.declared.Body.{Body}
 use Rattle.lines.specs.declared.Taken.{Taken}
-use Rattle.lines.specs.Texts.{mostBytes}
 use Rattle.lines.specs.Bodies.{bodyOf, lineOf, bodyFault, takenCode, bodyCode, lineFault, lineCode}
 use Rattle.lines.proofs.CodeLaws.{codes}
 use Rattle.lines.proofs.FaultLaws.{place-most}

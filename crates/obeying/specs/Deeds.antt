@@ -5,6 +5,8 @@ use mathlib.Core.Path.{_≡_}
 use mathlib.Core.List.{List, [], _∷_, _++_}
 use mathlib.Core.Bool.{Bool, true, false}
 use lib.ListN.{length, take}
+use Rattle.parts.specs.Letters.{byte, bytes}
+use Rattle.parts.specs.Parts.{mostBytes}
 use Rattle.digits.specs.Decimal.{decimal}
 use Rattle.digits.specs.Operand.{operandMost}
 use Rattle.digits.specs.ReadBack.{spelling}
@@ -13,7 +15,6 @@ use Rattle.commands.specs.declared.Command.the-variants.{Plain}
 use Rattle.commands.specs.declared.Act.the-variants.{Set}
 use Rattle.commands.specs.declared.Setting.the-variants.{TopSpeed}
 use Rattle.commands.specs.Writing.{inRange}
-use Rattle.lines.specs.Texts.{mostBytes}
 use Rattle.lines.specs.Loops.{Checked}
 use Rattle.lines.specs.Bodies.{bodyOf}
 use Rattle.lines.specs.declared.Body.{Body}
@@ -52,7 +53,7 @@ pub record Speeds (body : List ℕ) (c : Core) (n : ℕ) : Type 0 where
   pub short : length body ≤ mostBytes
   pub zeros : ℕ
   pub few : zeros + length (decimal n) ≤ operandMost
-  pub whole : body ≡ 86 ∷ (spelling zeros n ++ (82 ∷ []))
+  pub whole : body ≡ byte "V" ∷ (spelling zeros n ++ bytes "R")
   pub in-range : inRange (Plain (Set TopSpeed n)) ≡ true
 
 pub data Obeys (body : List ℕ) (c : Core) : Obeyed → Type 0 where

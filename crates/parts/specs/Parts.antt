@@ -32,9 +32,13 @@ pub record PutIs (dst : List ℕ) (at : ℕ) (src : List ℕ) (answer : Bool) (a
 unfoldable pub padded : ℕ → List ℕ → List ℕ
 padded n t = t ++ replicate (n - length t) 0
 
--- "the body has 0 to 256 bytes": the first 256 bytes of t, with zeros behind them
+-- "the body has 0 to 256 bytes"
+abbrev pub mostBytes : ℕ
+mostBytes = 256
+
+-- the first 256 bytes of t, with zeros behind them
 abbrev pub paddedText : List ℕ → List ℕ
-paddedText t = padded 256 (take 256 t)
+paddedText t = padded mostBytes (take mostBytes t)
 
 -- two lists of bytes, compared
 unfoldable pub same : List ℕ → List ℕ → Bool

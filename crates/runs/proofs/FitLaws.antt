@@ -5,10 +5,9 @@ use mathlib.Core.Path.{_≡_, refl}
 use mathlib.Core.List.{List, []}
 use native.Mathlib.Omega.{arith}
 use lib.ListN.{length, take, length-take}
-use Rattle.parts.specs.Parts.{paddedText}
+use Rattle.parts.specs.Parts.{paddedText, mostBytes}
 use Rattle.parts.proofs.Laws.{cases, length-padded}
 use Rattle.digits.specs.Operand.{widest}
-use Rattle.lines.specs.Texts.{mostBytes}
 use Rattle.image.specs.Image.{slotText}
 use Rattle.motor.specs.declared.Motor.{Motor}
 use Rattle.motor.specs.Motion.{fresh, reported, stopped}

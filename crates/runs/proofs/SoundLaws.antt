@@ -7,10 +7,9 @@ use mathlib.Core.Bool.{true, false≢true}
 use native.Mathlib.Omega.{arith}
 use lib.ListN.{length, take}
 use lib.Seq.{take-all, length-take-le}
-use Rattle.parts.specs.Parts.{paddedText}
+use Rattle.parts.specs.Parts.{paddedText, mostBytes}
 use Rattle.parts.proofs.Laws.{cases, take-padded}
 use Rattle.commands.specs.Table.{top}
-use Rattle.lines.specs.Texts.{mostBytes}
 use Rattle.lines.specs.Loops.{Checked}
 use Rattle.lines.proofs.TakenLaws.{text-checked}
 use Rattle.image.specs.Image.{slotText}

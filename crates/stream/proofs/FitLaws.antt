@@ -6,7 +6,7 @@ use mathlib.Core.Path.{_≡_, refl}
 use mathlib.Core.Bool.{Bool, true, false}
 use mathlib.Core.List.{List, [], _∷_}
 use lib.ListN.{length, take, length-take}
-use Rattle.parts.specs.Parts.{paddedText}
+use Rattle.parts.specs.Parts.{paddedText, mostBytes}
 use Rattle.parts.proofs.Laws.{cases, length-padded}
 use Rattle.digits.specs.Operand.{widest}
 use Rattle.digits.proofs.Writing.{length-most}
@@ -22,7 +22,6 @@ use Rattle.turns.specs.declared.setting.Settings.{Settings}
 use Rattle.turns.specs.declared.Stepped.{Stepped}
 use Rattle.turns.specs.Settings.{defaults}
 use Rattle.turns.specs.Turns.{freshCore, started, ended, textAfter}
-use Rattle.lines.specs.Texts.{mostBytes}
 use Rattle.obeying.specs.declared.Tell.{Tell}
 use Rattle.obeying.specs.declared.Obeyed.{Obeyed}
 use Rattle.obeying.specs.Obeying.{dataOf, placeTold, loadedAs, textWritten}

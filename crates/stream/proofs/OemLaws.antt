@@ -9,6 +9,7 @@ use lib.Dec.{ltb, eqb}
 use borrow.Author.Tests.{le-ltb, eqb-true}
 use Rattle.parts.specs.Parts.{same, putIn}
 use Rattle.parts.proofs.Laws.{cases}
+use Rattle.parts.specs.Letters.{cr, etx}
 use Rattle.answers.specs.Packet.{packetBytes, statusOf}
 use Rattle.commands.specs.Table as table
 use Rattle.lines.specs.declared.Immediate.{Immediate}
@@ -20,7 +21,7 @@ use Rattle.frames.specs.declared.Frame.{Frame}
 use Rattle.frames.specs.declared.Framing.{Framing}
 use Rattle.frames.specs.Addresses.{isUnit, calledOf}
 use Rattle.frames.specs.declared.Place.{Place}
-use Rattle.frames.specs.Receive.{Receiver, Received, bodyIn, cr, etx, mostKept, obeyed, good, elsewhere, past}
+use Rattle.frames.specs.Receive.{Receiver, Received, bodyIn, mostKept, obeyed, good, elsewhere, past}
 use Rattle.frames.specs.Claims.{Sound, SameBody, Same, free, frameOf, oemOf, sumOf}
 use Rattle.frames.proofs.Bodies.{whole, whole-oem, wrong-sum}
 use Rattle.frames.proofs.Alike.{as-if-not-come}

@@ -6,6 +6,7 @@ use mathlib.Core.List.{List, [], _∷_, _++_}
 use mathlib.Core.Bool.{Bool, true, false, cond}
 use lib.ListN.{length}
 use Rattle.parts.specs.Parts.{putIn}
+use Rattle.parts.specs.Letters.{cr, etx}
 use Rattle.answers.specs.Packet.{packet, packetBytes}
 use Rattle.answers.specs.Oem.{oemPacket}
 use Rattle.image.specs.Image.{rightLength}
@@ -13,7 +14,7 @@ use Rattle.frames.specs.declared.Framing.{Framing}
 use Rattle.frames.specs.Addresses.{calledOf}
 use Rattle.frames.specs.declared.Frame.{Frame}
 use Rattle.frames.specs.declared.Place.{Place}
-use Rattle.frames.specs.Receive.{Receiver, bodyIn, cr, etx, obeyed, good, elsewhere}
+use Rattle.frames.specs.Receive.{Receiver, bodyIn, obeyed, good, elsewhere}
 use Rattle.frames.specs.Claims.{Sound, Alike, free, frameOf, oemOf, sumOf}
 use Rattle.obeying.specs.declared.Tell.{Tell}
 use Rattle.obeying.specs.Obeying.{telling}

@@ -16,8 +16,9 @@ use Rattle.image.specs.Image.{slotGood}
 use Rattle.flow.specs.Flow.{loopBegun, loopEnded}
 use Rattle.motor.specs.declared.Wait.{Wait}
 use Rattle.motor.specs.Inputs.{levelThere, falls, cut, clear}
-use Rattle.motor.specs.Motion.{room, reported}
+use Rattle.motor.specs.Motion.{room, reported, flagNotFound, positionUnknown, rangeLeft}
 use Rattle.turns.specs.declared.Core.{Core}
+use Rattle.turns.specs.Turns.{slotBroken}
 
 -- `A`, `P` and `D`
 pub data Moving : Act → Type 0 where
@@ -56,20 +57,20 @@ pub data TurnEnds (sample steps : ℕ) (t image : List ℕ) (c : Core) : ℕ →
   textEnds : Reads t c End → TurnEnds sample steps t image c (c .code)
   -- "flag not found within a leg (1)": not clear within the leg away, or not cut within the leg toward zero
   notClear : (left n : ℕ) → c .motor .wait ≡ Wait.LegAway left n → clear (c .settings .flag) sample ≡ false → left ≤ steps
-      → TurnEnds sample steps t image c 1
+      → TurnEnds sample steps t image c flagNotFound
   notCut : (left : ℕ) → c .motor .wait ≡ Wait.LegToward left → cut (c .settings .flag) sample ≡ false → left ≤ steps
-      → TurnEnds sample steps t image c 1
+      → TurnEnds sample steps t image c flagNotFound
   -- "`e` to a slot whose entry or body, unused bytes included, breaks the image's rules (1)"
   badSlot : (slot next : ℕ) → Reads t c (At (Jump slot) next) → slotGood image slot ≡ false
-      → TurnEnds sample steps t image c 1
+      → TurnEnds sample steps t image c slotBroken
   -- "`A P D` with position unknown (7)"
   unknown : (a : Act) (next : ℕ) → Reads t c (At (Plain a) next) → Moving a → c .motor .known ≡ false
-      → TurnEnds sample steps t image c 7
+      → TurnEnds sample steps t image c positionUnknown
   -- "a finite move that would leave 0 to 2147483647 .. (11)"; "7 comes before 11"
   leavesRange : (a : Act) (next : ℕ) → Reads t c (At (Plain a) next) → c .motor .known ≡ true
       → Leaving (positionThen sample steps c) a
-      → TurnEnds sample steps t image c 11
+      → TurnEnds sample steps t image c rangeLeft
   -- "or an endless one at its end (11)": "steps count first, then the edge, then the end of the range"
   rangeEnds : (up : Bool) (left : ℕ) → c .motor .wait ≡ Wait.Move up true left → falls (c .motor .sample) sample ≡ false
       → room up (positionThen sample steps c) ≡ 0
-      → TurnEnds sample steps t image c 11
+      → TurnEnds sample steps t image c rangeLeft

@@ -112,10 +112,14 @@ stays c = record { core = c; enter = Stay }
 abbrev pub enters : ℕ → Core → Stepped
 enters slot c = record { core = c; enter = Into slot }
 
+-- "`e` to a slot whose entry or body .. breaks the image's rules (1)"
+abbrev pub slotBroken : ℕ
+slotBroken = 1
+
 -- "`e` makes the slot's text the current text (not where it stops the run with 1), closes all loops and begins it"
 unfoldable pub jumped : ℕ → List ℕ → Core → Stepped
 jumped slot image c =
-    cond (slotGood image slot) (enters slot (withFlow (begun (length (slotText image slot))) c)) (stays (ended 1 c))
+    cond (slotGood image slot) (enters slot (withFlow (begun (length (slotText image slot))) c)) (stays (ended slotBroken c))
 
 -- "`S` tests one": the next command is skipped where the input has the level
 unfoldable pub skipTaken : ℕ → List ℕ → ℕ → Core → Core

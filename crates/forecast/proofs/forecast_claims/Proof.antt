@@ -6,7 +6,6 @@ use Rattle.commands.specs.Table.{table, find, asksOf, commandOf, oneOf, powerIn
 use Rattle.commands.specs.Reading.{readBy}
 use Rattle.lines.specs.Texts.{unplaced, readingIn, readingBy, faultPlaces, fifteenth, storedPlaces, leftmost, lineJudged, storedBy}
 use Rattle.lines.specs.Bodies.{immediates, immediateIn, bodyOf, endsWithR, textEnd, takenOf, lineOf, lineFault}
-use Rattle.lines.specs.Examples.{bytes}
 use Rattle.courses.specs.Meaning.{tailOf, courseOf, cost, courseIn, commandsIn}
 use Rattle.forecast.specs.Count.{anyBarred, countText, bodyText, countOf}
 use Rattle.forecast.specs.Examples.{examples, counts, given}
@@ -15,7 +14,7 @@ use Rattle.forecast.proofs.forecast_claims.Statement.{statement}
 use Rattle.forecast.proofs.forecast_claims.Tie as tie
 
 edges : counts examples ≡ given examples
-unfolding examples counts given countOf countText bodyText anyBarred tailOf courseOf cost courseIn commandsIn bytes part lineFault bodyOf same immediates immediateIn endsWithR textEnd takenOf lineOf unplaced readingIn readingBy faultPlaces fifteenth storedPlaces leftmost lineJudged storedBy readBy table find asksOf commandOf oneOf powerIn exponentOf within operandAt operandUpTo operandOf digitRun valueAfter
+unfolding examples counts given countOf countText bodyText anyBarred tailOf courseOf cost courseIn commandsIn part lineFault bodyOf same immediates immediateIn endsWithR textEnd takenOf lineOf unplaced readingIn readingBy faultPlaces fifteenth storedPlaces leftmost lineJudged storedBy readBy table find asksOf commandOf oneOf powerIn exponentOf within operandAt operandUpTo operandOf digitRun valueAfter
 edges = refl
 
 returns : tie.Need-returns

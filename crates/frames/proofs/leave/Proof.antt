@@ -2,7 +2,7 @@
 -- Assumes nothing.
 use borrow.Author.Needs.{needs}
 use borrow.Author.Tests.{eq-eqb, ne-eqb}
-use Rattle.frames.specs.Receive.{slash, stx}
+use Rattle.parts.specs.Letters.{slash, stx}
 use Rattle.frames.proofs.Runs.{leaves-cr}
 use Rattle.frames.proofs.leave.Statement.{statement}
 use Rattle.frames.proofs.leave.Tie as tie
