@@ -1,4 +1,5 @@
--- Laws of a packet of either framing that is read: what its frame, its status and its data are, from the tests of single bytes and to them. Assumes nothing.
+-- Laws of a packet of either framing that is read: what its frame, its status and its data are, from the tests of single bytes and to them.
+-- Assumes nothing.
 use Prim.Native.Nat.{ℕ, suc, _+_, _-_, _%_, _/_, _≤_, _<_}
 use mathlib.Core.Path.{_≡_, refl, sym, ap, _∙_}
 use mathlib.Core.List.{List, [], _∷_, _++_}
@@ -13,7 +14,8 @@ use Rattle.parts.specs.Letters.{stx, etx, cr, lf, slash}
 use Rattle.parts.specs.Parts.{part, same}
 use Rattle.parts.proofs.Laws.{same-is, same-self}
 use Rattle.answers.specs.Packet.{hostAddress, frameOf, tail, packet, dataAt, aroundData, mostData}
-use Rattle.answers.specs.Reading.{statusIn, dataIn, framedBy, framed, printable, allPrintable, goodData, goodStatus, bit, oneBy, insideBy, Roomy}
+use Rattle.answers.specs.Reading.{statusIn, dataIn, framedBy, framed, oneBy, insideBy, Roomy}
+use Rattle.answers.specs.Reading.{printable, allPrintable, goodData, goodStatus, bit}
 use Rattle.answers.specs.Oem.{oemTail, oemPacket, aroundOem}
 use Rattle.answers.specs.declared.Inside.the-variants.{StatusData, Neither}
 use Rattle.answers.proofs.Writing.{length-frame}
@@ -59,7 +61,8 @@ oem = record { made = λ s b. refl; long = λ s b. refl }
 
 module _ {make : ℕ → List ℕ → List ℕ} {around start : ℕ} {back : ℕ → List ℕ → List ℕ} (g : Framing make around start back) where
   pub length-made : (status : ℕ) (bytes : List ℕ) → length (make status bytes) ≡ around + length bytes
-  length-made status bytes = ap length (g .made status bytes) ∙ length-frame start (back status bytes) status bytes ∙ omega (arith, g .long status bytes)
+  length-made status bytes =
+      ap length (g .made status bytes) ∙ length-frame start (back status bytes) status bytes ∙ omega (arith, g .long status bytes)
 
   module _ (s : List ℕ) (f : framedBy make around s ≡ true) where
     -- a framed list is the packet of its status and data

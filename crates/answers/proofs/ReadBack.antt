@@ -17,7 +17,8 @@ use Rattle.digits.specs.declared.Written.{Written}
 use Rattle.digits.specs.declared.Written.the-variants.{Past}
 use Rattle.digits.proofs.ReadBack.{Digits, none, one, digits-digits}
 use Rattle.answers.specs.Packet.{lowFour, statusOf, dataAt, aroundData, mostData, packetBytes, numberData, PacketAs}
-use Rattle.answers.specs.Reading.{statusIn, dataIn, framedBy, bit, goodStatus, allPrintable, goodData, oneBy, insideBy, foundOf, refused, toldOf}
+use Rattle.answers.specs.Reading.{statusIn, dataIn, framedBy, oneBy, insideBy, foundOf, refused, toldOf}
+use Rattle.answers.specs.Reading.{bit, goodStatus, allPrintable, goodData}
 use Rattle.answers.specs.AnswerClaims.{ToldAs, GenuineAs, StatusBits}
 use Rattle.answers.specs.declared.Packet.{Packet}
 use Rattle.answers.specs.declared.Found.the-variants.{OnePacket, NotOnePacket}
@@ -156,7 +157,8 @@ module _ {make : ℕ → List ℕ → List ℕ} {around start : ℕ} {back : ℕ
   fits {buffer} {status} {bytes} few b d p =
       let long : length (make status bytes) ≡ around + length bytes = length-made g status bytes in
       let short : leb (length bytes) mostData ≡ true = le-leb (length bytes) mostData d in
-      let room : leb (0 + length (make status bytes)) (length buffer) ≡ true = le-leb (0 + length (make status bytes)) (length buffer) (omega arith) in
+      let room : leb (0 + length (make status bytes)) (length buffer) ≡ true =
+      le-leb (0 + length (make status bytes)) (length buffer) (omega arith) in
       let from : 0 + length (make status bytes) ≡ around + length bytes = omega arith in (
         p .answers ∙ rw (short, room, from),
         p .leaves ∙ rw (short, put-in-room buffer 0 (make status bytes) (omega arith), put-front buffer (make status bytes), long),

@@ -1,4 +1,5 @@
--- Laws of a packet of either framing that is written: how long it is, that head, data and tail in turn make it, and the promise met each way. Assumes nothing.
+-- Laws of a packet of either framing that is written: how long it is, that head, data and tail in turn make it, and the promise met each way.
+-- Assumes nothing.
 use Prim.Native.Nat.{ℕ, _+_, _≤_, _<_, zero-le}
 use mathlib.Core.Path.{_≡_, refl, sym, ap, _∙_}
 use mathlib.Core.List.{List, [], _∷_}
@@ -17,7 +18,8 @@ use Rattle.digits.proofs.Writing.{length-most, is-written, is-refused}
 use Rattle.answers.specs.Packet.{hostAddress, frameOf, dataAt, mostData, mostDigits, numberData, PacketAs}
 use Rattle.answers.specs.declared.Data.{Data}
 
-pub length-frame : (start : ℕ) (back : List ℕ) (status : ℕ) (bytes : List ℕ) → length (frameOf start back status bytes) ≡ dataAt + length bytes + length back
+pub length-frame : (start : ℕ) (back : List ℕ) (status : ℕ) (bytes : List ℕ)
+    → length (frameOf start back status bytes) ≡ dataAt + length bytes + length back
 length-frame start back status bytes = simp length-append (omega arith)
 
 -- ---- the promise, met each way
@@ -50,7 +52,8 @@ put-whole xs start status bytes back =
 module _ {start : ℕ} {back : List ℕ} {buffer : List ℕ} {status : ℕ} {bytes : List ℕ} (h : length bytes ≤ mostData) where
   pub no-room : length buffer < dataAt + length bytes + length back → PacketAs (frameOf start back) buffer status bytes NoRoom buffer
   no-room g =
-      is-packet {make = frameOf start back} h (is-refused buffer 0 (frameOf start back status bytes) (omega (arith, length-frame start back status bytes)))
+      let long = length-frame start back status bytes in
+      is-packet {make = frameOf start back} h (is-refused buffer 0 (frameOf start back status bytes) (omega arith))
 
   -- the same, told by `put_at`
   pub written : {x y z : List ℕ} {p q r : Bool} → dataAt + length bytes + length back ≤ length buffer

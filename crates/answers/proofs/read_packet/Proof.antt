@@ -5,8 +5,11 @@ use Rattle.answers.proofs.Framing.{plain, roomy}
 use Rattle.answers.proofs.read_packet.Statement.{statement}
 use Rattle.answers.proofs.read_packet.Tie as tie
 
-returns : tie.Need-returns
-returns c = c .tell .ensures ∙ rw (c .before .look-inside .ensures, c .before .before .framed .ensures)
-
 pub read-packet-spec : {M : Type 1} → statement M
-read-packet-spec = tie.close (tie.spec (λ c κs. search needs) (λ c κs. roomy plain _ (c .framed .ensures)) (λ c κs. search needs) returns)
+read-packet-spec =
+    tie.close
+    (tie.spec
+    (λ c κs. search needs)
+    (λ c κs. roomy plain _ (c .framed .ensures))
+    (λ c κs. search needs)
+    (λ c. c .tell .ensures ∙ rw (c .before .look-inside .ensures, c .before .before .framed .ensures)))

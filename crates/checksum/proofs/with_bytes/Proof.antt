@@ -17,9 +17,6 @@ Inv-loop sum bytes s₀ i₀ s i = (i ≤ length bytes) × (sumFrom s₀ bytes �
 abbrev μ-loop : tie.MeasureT-loop
 μ-loop sum bytes s₀ i₀ s i = length bytes - i
 
-loop-holds : tie.Need-loop-holds Inv-loop μ-loop
-loop-holds c = (omega arith, refl)
-
 loop-again : tie.Need-loop-again Inv-loop μ-loop
 loop-again c =
     let at = c .before .before .before .loop in
@@ -38,7 +35,7 @@ with-bytes-spec =
     (tie.spec
     Inv-loop
     μ-loop
-    loop-holds
+    (λ c. (omega arith, refl))
     (λ c. search needs)
     (λ c κs. search needs)
     (λ c. search needs)

@@ -16,15 +16,6 @@ Inv-loop s at i₀ v₀ d₀ i v d = Reading s at i v d
 abbrev μ-loop : tie.MeasureT-loop
 μ-loop s at i₀ v₀ d₀ i v d = length s - i
 
-loop-holds : tie.Need-loop-holds Inv-loop μ-loop
-loop-holds c = record { digit = c .digit-at .ensures; small = omega arith; past = refl; same = refl }
-
-add-i : tie.Need-add-i Inv-loop μ-loop
-add-i c = omega (arith, within _ _ _ _ _ (c .before .before .loop .inv) (c .before .loop-test .taken))
-
-loop-less : tie.Need-loop-less Inv-loop μ-loop
-loop-less c = omega (arith, within _ _ _ _ _ (c .before .before .before .loop .inv) (c .before .before .loop-test .taken))
-
 loop-again : tie.Need-loop-again Inv-loop μ-loop
 loop-again c =
     next _ _ _ _ _ _ _ (c .before .before .before .loop .inv) (c .before .before .loop-test .taken) (c .before .push .ensures) (c .digit-at2 .ensures)
@@ -52,11 +43,11 @@ read-operand-spec =
     Inv-loop
     μ-loop
     (λ c κs. search needs)
-    loop-holds
+    (λ c. record { digit = c .digit-at .ensures; small = omega arith; past = refl; same = refl })
     (λ c κs. omega arith)
-    add-i
+    (λ c. omega (arith, within _ _ _ _ _ (c .before .before .loop .inv) (c .before .loop-test .taken)))
     (λ c κs. search needs)
-    loop-less
+    (λ c. omega (arith, within _ _ _ _ _ (c .before .before .before .loop .inv) (c .before .before .loop-test .taken)))
     loop-again
     returns
     (λ c. omega arith)

@@ -17,8 +17,5 @@ edges : counts examples ≡ given examples
 unfolding examples counts given countOf countText bodyText anyBarred tailOf courseOf cost courseIn commandsIn part lineFault bodyOf same immediates immediateIn endsWithR textEnd takenOf lineOf unplaced readingIn readingBy faultPlaces fifteenth storedPlaces leftmost lineJudged storedBy readBy table find asksOf commandOf oneOf powerIn exponentOf within operandAt operandUpTo operandOf digitRun valueAfter
 edges = refl
 
-returns : tie.Need-returns
-returns c = record { told = told; edges = edges }
-
 pub forecast-claims-spec : {M : Type 1} → statement M
-forecast-claims-spec = tie.close (tie.spec returns)
+forecast-claims-spec = tie.close (tie.spec (λ c. record { told = told; edges = edges }))

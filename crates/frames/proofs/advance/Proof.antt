@@ -14,9 +14,6 @@ keep-requires c κs = (
   sym (c .before .before .inside .ensures) ∙ c .before .if1 .taken,
 )
 
-returns : tie.Need-returns
-returns c = c .keep .ensures _
-
 returns-2 : tie.Need-returns-2
 returns-2 c =
     let there = only-outside (c .before .before .before .before .before .before .args .h .place) (sym (c .before .before .outside .ensures) ∙ c .before .if2 .taken) in
@@ -33,7 +30,7 @@ advance-spec =
     (tie.spec
     (λ c κs. search needs)
     keep-requires
-    returns
+    (λ c. c .keep .ensures _)
     (λ c κs. search needs)
     (λ c κs. search needs)
     returns-2

@@ -22,12 +22,6 @@ Inv-loop place kept body₀ bytes i n₀ next₀ body n next =
 abbrev μ-loop : tie.MeasureT-loop
 μ-loop place kept body₀ bytes i n₀ next₀ body n next = length bytes - next
 
-loop-holds : tie.Need-loop-holds Inv-loop μ-loop
-loop-holds c = (omega arith, omega arith, λ u. refl)
-
-leave-requires : tie.Need-leave-requires Inv-loop μ-loop
-leave-requires c κs = sym (c .before .before .leaves .ensures) ∙ c .before .if1 .taken
-
 returns : tie.Need-returns Inv-loop μ-loop
 returns c u =
     let k = c .before .before .before .before .before .before .loop in
@@ -73,12 +67,12 @@ keep-spec =
     (tie.spec
     Inv-loop
     μ-loop
-    loop-holds
+    (λ c. (omega arith, omega arith, λ u. refl))
     (λ c. search needs)
     (λ c. search needs)
     (λ c κs. search needs)
     (λ c κs. search needs)
-    leave-requires
+    (λ c κs. sym (c .before .before .leaves .ensures) ∙ c .before .if1 .taken)
     returns
     (λ c. search needs)
     (λ c. search needs)

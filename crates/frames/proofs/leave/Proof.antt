@@ -7,12 +7,6 @@ use Rattle.frames.proofs.Runs.{leaves-cr}
 use Rattle.frames.proofs.leave.Statement.{statement}
 use Rattle.frames.proofs.leave.Tie as tie
 
-returns : tie.Need-returns
-returns c p body = simp (c .at .ensures, eq-eqb _ _ (c .before .if1 .taken))
-
-returns-2 : tie.Need-returns-2
-returns-2 c p body = simp (c .at2 .ensures, eq-eqb _ _ (c .before .if2 .taken), ne-eqb _ _ (c .before .before .if1 .left))
-
 returns-3 : tie.Need-returns-3
 returns-3 c p body =
     let b = c .before .before .before .args .b in
@@ -25,8 +19,8 @@ leave-spec =
     tie.close
     (tie.spec
     (λ c κs. search needs)
-    returns
+    (λ c p body. simp (c .at .ensures, eq-eqb _ _ (c .before .if1 .taken)))
     (λ c κs. search needs)
-    returns-2
+    (λ c p body. simp (c .at2 .ensures, eq-eqb _ _ (c .before .if2 .taken), ne-eqb _ _ (c .before .before .if1 .left)))
     (λ c κs. search needs)
     returns-3)

@@ -24,9 +24,6 @@ Inv-loop kept bytes i next₀ next =
 abbrev μ-loop : tie.MeasureT-loop
 μ-loop kept bytes i next₀ next = length bytes - next
 
-loop-holds : tie.Need-loop-holds Inv-loop μ-loop
-loop-holds c = (omega arith, omega arith, λ u body. refl)
-
 returns : tie.Need-returns Inv-loop μ-loop
 returns c u body =
     let k = c .before .before .before .before .loop in
@@ -65,7 +62,7 @@ look-out-spec =
     (tie.spec
     Inv-loop
     μ-loop
-    loop-holds
+    (λ c. (omega arith, omega arith, λ u body. refl))
     (λ c. search needs)
     (λ c. search needs)
     (λ c κs. search needs)

@@ -17,9 +17,6 @@ Inv-loop bytes clean₀ i₀ i-end clean i = (i ≤ i-end) × (zeros bytes ≡ c
 abbrev μ-loop : tie.MeasureT-loop
 μ-loop bytes clean₀ i₀ i-end clean i = i-end - i
 
-loop-holds : tie.Need-loop-holds Inv-loop μ-loop
-loop-holds c = (zero-le, refl)
-
 loop-again : tie.Need-loop-again Inv-loop μ-loop
 loop-again c =
     let l = c .before .before .before in
@@ -37,7 +34,7 @@ all-zero-spec =
     (tie.spec
     Inv-loop
     μ-loop
-    loop-holds
+    (λ c. (zero-le, refl))
     (λ c. omega arith)
     (λ c κs. search needs)
     (λ c. omega arith)

@@ -19,9 +19,6 @@ Inv-loop image₀ slot₀ image slot = (slot ≤ slots) × (image ≡ put image�
 abbrev μ-loop : tie.MeasureT-loop
 μ-loop image₀ slot₀ image slot = slots - slot
 
-returns : tie.Need-returns Inv-loop μ-loop
-returns c = not-cleared (c .before .before .args .image .now) (c .if1 .taken)
-
 loop-holds : tie.Need-loop-holds Inv-loop μ-loop
 unfolding put emptyEntries
 loop-holds c = (zero-le, refl, refl)
@@ -32,9 +29,6 @@ loop-again c =
     let l = p .before .before .before in
     let image = l .before .before .before .args .image .now in
     (omega arith, p .put-entry .ensures ∙ rw (l .loop .inv .1) (entry-more image (l .loop .slot)), p .put-entry .kept .0 ∙ l .loop .inv .2)
-
-same-length : tie.Need-same-length Inv-loop μ-loop
-same-length c = c .before .before .wipe-at .kept .0 ∙ c .before .before .before .before .before .loop .inv .2
 
 returns-2 : tie.Need-returns-2 Inv-loop μ-loop
 returns-2 c =
@@ -53,7 +47,7 @@ clear-spec =
     (tie.spec
     Inv-loop
     μ-loop
-    returns
+    (λ c. not-cleared (c .before .before .args .image .now) (c .if1 .taken))
     loop-holds
     (λ c κs. search needs)
     (λ c. search needs)
@@ -61,5 +55,5 @@ clear-spec =
     loop-again
     (λ c. search needs)
     (λ c κs. search needs)
-    same-length
+    (λ c. c .before .before .wipe-at .kept .0 ∙ c .before .before .before .before .before .loop .inv .2)
     returns-2)

@@ -8,12 +8,6 @@ use borrow.Author.Needs.{needs}
 use Rattle.image.proofs.word_at.Statement.{statement}
 use Rattle.image.proofs.word_at.Tie as tie
 
-cast-low : tie.Need-cast-low
-cast-low c = omega (arith, c .shared-slice-known .given (c .before .args .at))
-
-cast-high : tie.Need-cast-high
-cast-high c = omega (arith, c .shared-slice-known2 .given (c .before .before .args .at + 1))
-
 mul-result : tie.Need-mul-result
 mul-result c = omega (arith, c .before .shared-slice-known .given (c .before .before .args .at), c .shared-slice-known2 .given (c .before .before .args .at + 1))
 
@@ -29,10 +23,10 @@ word-at-spec =
     tie.close
     (tie.spec
     (λ c. search needs)
-    cast-low
+    (λ c. omega (arith, c .shared-slice-known .given (c .before .args .at)))
     (λ c. search needs)
     (λ c. search needs)
-    cast-high
+    (λ c. omega (arith, c .shared-slice-known2 .given (c .before .before .args .at + 1)))
     mul-result
     add-result
     returns)

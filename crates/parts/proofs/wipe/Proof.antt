@@ -17,9 +17,6 @@ Inv-loop s₀ i₀ i-end s i = (i ≤ i-end) × (s ≡ replicate i 0 ++ drop i s
 abbrev μ-loop : tie.MeasureT-loop
 μ-loop s₀ i₀ i-end s i = i-end - i
 
-loop-holds : tie.Need-loop-holds Inv-loop μ-loop
-loop-holds c = (zero-le, refl, refl)
-
 loop-again : tie.Need-loop-again Inv-loop μ-loop
 loop-again c =
     let at-loop = c .before in
@@ -28,9 +25,6 @@ loop-again c =
       ap (λ (l : List ℕ). set l i 0) (at-loop .loop .inv .1) ∙ fill-more i 0 (at-loop .before .args .s .now) (c .loop-test .taken),
       length-set (at-loop .loop .s) i 0 ∙ at-loop .loop .inv .2,
     )
-
-same-length : tie.Need-same-length Inv-loop μ-loop
-same-length c = c .before .loop .inv .2
 
 returns : tie.Need-returns Inv-loop μ-loop
 returns c =
@@ -44,10 +38,10 @@ wipe-spec =
     (tie.spec
     Inv-loop
     μ-loop
-    loop-holds
+    (λ c. (zero-le, refl, refl))
     (λ c. omega arith)
     (λ c. omega arith)
     (λ c. omega arith)
     loop-again
-    same-length
+    (λ c. c .before .loop .inv .2)
     returns)

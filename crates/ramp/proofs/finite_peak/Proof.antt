@@ -9,9 +9,6 @@ use Rattle.ramp.proofs.Peak.{greatest-is}
 use Rattle.ramp.proofs.finite_peak.Statement.{statement}
 use Rattle.ramp.proofs.finite_peak.Tie as tie
 
-mul-room-2 : tie.Need-mul-room-2
-mul-room-2 c = fits-le (mul-le-mul (mul-le-mul-left doubleUnit (c .pre .1 .1)) (c .pre .2 .1)) (fits-lit tt)
-
 cast-result : tie.Need-cast-result
 cast-result c =
     let a = c .before .args in
@@ -22,7 +19,7 @@ finite-peak-spec =
     tie.close
     (tie.spec
     (λ c. search needs)
-    mul-room-2
+    (λ c. fits-le (mul-le-mul (mul-le-mul-left doubleUnit (c .pre .1 .1)) (c .pre .2 .1)) (fits-lit tt))
     (λ c κs. search needs)
     cast-result
     (λ c. search needs))

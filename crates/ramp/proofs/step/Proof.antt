@@ -5,8 +5,10 @@ use borrow.Author.Needs.{needs}
 use Rattle.ramp.proofs.step.Statement.{statement}
 use Rattle.ramp.proofs.step.Tie as tie
 
-add-result : tie.Need-add-result
-add-result c = omega (arith, div-le-self (c .args .square) (c .args .x))
-
 pub step-spec : {M : Type 1} → statement M
-step-spec = tie.close (tie.spec (λ c. search needs) add-result (λ c. search needs))
+step-spec =
+    tie.close
+    (tie.spec
+    (λ c. search needs)
+    (λ c. omega (arith, div-le-self (c .args .square) (c .args .x)))
+    (λ c. search needs))

@@ -9,9 +9,6 @@ use Rattle.ramp.proofs.Peak.{square-le}
 use Rattle.ramp.proofs.taken.Statement.{statement}
 use Rattle.ramp.proofs.taken.Tie as tie
 
-mul-distance : tie.Need-mul-distance
-mul-distance c = fits-le (square-le (omega arith)) (fits-lit tt)
-
 returns : tie.Need-returns
 unfolding ofBits takenOf speedOf accelerationOf timeOf distanceOf
 returns c = refl
@@ -22,7 +19,7 @@ taken-spec =
     (tie.spec
     (λ c. search needs)
     (λ c. search needs)
-    mul-distance
+    (λ c. fits-le (square-le (omega arith)) (fits-lit tt))
     (λ c. search needs)
     (λ c. search needs)
     returns)

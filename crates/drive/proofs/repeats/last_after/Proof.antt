@@ -3,12 +3,6 @@ use borrow.Author.Needs.{needs}
 use Rattle.drive.proofs.repeats.last_after.Statement.{statement}
 use Rattle.drive.proofs.repeats.last_after.Tie as tie
 
-returns-2 : tie.Need-returns-2
-returns-2 c = simp (c .before .enum-told2 .given .1) (c .number-after .ensures)
-
-returns-3 : tie.Need-returns-3
-returns-3 c = simp (c .before .enum-told3 .given .1) (c .number-after2 .ensures)
-
 pub last-after-spec : {M : Type 1} → statement M
 last-after-spec =
     tie.close
@@ -19,5 +13,5 @@ last-after-spec =
     (λ c. search needs)
     (λ c κs. search needs)
     (λ c. search needs)
-    returns-2
-    returns-3)
+    (λ c. simp (c .before .enum-told2 .given .1) (c .number-after .ensures))
+    (λ c. simp (c .before .enum-told3 .given .1) (c .number-after2 .ensures)))

@@ -3,13 +3,13 @@ use borrow.Author.Needs.{needs}
 use Rattle.drive.proofs.repeats.number_after.Statement.{statement}
 use Rattle.drive.proofs.repeats.number_after.Tie as tie
 
-returns-2 : tie.Need-returns-2
-returns-2 c = simp (c .before .before .before .framing .given .1, ← c .before .is-refusal .ensures, c .if1 .taken)
-
-returns-3 : tie.Need-returns-3
-returns-3 c = simp (c .before .before .before .framing .given .1, ← c .before .is-refusal .ensures, c .if1 .left)
-
 pub number-after-spec : {M : Type 1} → statement M
 number-after-spec =
     tie.close
-    (tie.spec (λ c. search needs) (λ c. search needs) (λ c. search needs) (λ c κs. search needs) returns-2 returns-3)
+    (tie.spec
+    (λ c. search needs)
+    (λ c. search needs)
+    (λ c. search needs)
+    (λ c κs. search needs)
+    (λ c. simp (c .before .before .before .framing .given .1, ← c .before .is-refusal .ensures, c .if1 .taken))
+    (λ c. simp (c .before .before .before .framing .given .1, ← c .before .is-refusal .ensures, c .if1 .left)))
