@@ -44,7 +44,7 @@ use Rattle.claims.proofs.OrderLaws.{order-row}
 
 -- ---- start
 
-from-unit : (number : ℕ) → From 1 16 number → isUnit number ≡ true
+pub from-unit : (number : ℕ) → From 1 16 number → isUnit number ≡ true
 from-unit number h = rw (le-leb 1 number (h .0), le-leb number 16 (h .1))
 
 from-no-unit : (number : ℕ) → (From 1 16 number → ⊥) → isUnit number ≡ false

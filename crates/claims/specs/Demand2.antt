@@ -30,6 +30,8 @@ use Rattle.stream.specs.Oem.{OemClaims}
 use Rattle.runs.specs.Reach.{Reached}
 use Rattle.runs.specs.Packets.{PacketClaims}
 use Rattle.effects.specs.Claims.{EffectClaims}
+use Rattle.claims.specs.Demand1.{From}
+use Rattle.claims.specs.Addressed.{Addressed}
 use Rattle.claims.specs.Moves.{MoveTurns}
 use Rattle.claims.specs.Joined.{Joined}
 
@@ -84,6 +86,7 @@ pub record Demand2 : Type 0 where
   pub written : HostClaims
   -- "Cutting the serial stream differently", "a whole frame for another unit"
   pub frames : FrameClaims
+  pub addressed : (u : ℕ) → From 1 16 u → Addressed u
   pub stream : StreamClaims
   -- 02, E1: skipped frames, repeats, the number
   pub oem : OemClaims

@@ -513,6 +513,18 @@ module _ (u : Drive) (sample ms steps : ℕ) (image : List ℕ) (run : u .core .
   unfolding served endlessOn reported
   edge up left e l = goes-to (Wait.Move up true left) _ _ known (waiting Wait.Nothing now) e refl (rw l) refl refl refl refl
 
+  endless-up-on : (left : ℕ) → u .core .motor .wait ≡ Wait.Move true true left → falls (u .core .motor .sample) sample ≡ false → here t < top
+      → Leads t (Wait.Move true true (top - here t)) (here t) known
+  unfolding served endlessOn reported room
+  endless-up-on left e l h =
+      goes-to (Wait.Move true true left) _ _ known (waiting (Wait.Move true true (top - now .position)) now) e refl (rw (l, ne-eqb (top - now .position) 0 (λ z. omega arith))) refl refl refl refl
+
+  endless-down-on : (left : ℕ) → u .core .motor .wait ≡ Wait.Move false true left → falls (u .core .motor .sample) sample ≡ false → 0 < here t
+      → Leads t (Wait.Move false true (here t)) (here t) known
+  unfolding served endlessOn reported room
+  endless-down-on left e l h =
+      goes-to (Wait.Move false true left) _ _ known (waiting (Wait.Move false true (now .position)) now) e refl (rw (l, ne-eqb (now .position) 0 (λ z. omega arith))) refl refl refl refl
+
   away-on : (left n : ℕ) → u .core .motor .wait ≡ Wait.LegAway left n → atFlag t ≡ true → steps < left → Leads t (Wait.LegAway (left - steps) n) (here t) known
   unfolding served awayOn reported
   away-on left n e q l =
@@ -601,6 +613,8 @@ module _ (u : Drive) (sample ms steps : ℕ) (image : List ℕ) (run : u .core .
     level-comes = level-comes;
     level-stays = level-stays;
     edge = edge;
+    endless-up-on = endless-up-on;
+    endless-down-on = endless-down-on;
     away-on = away-on;
     away-clear = away-clear;
     toward-on = toward-on;

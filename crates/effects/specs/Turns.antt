@@ -228,6 +228,11 @@ pub record EachWait (t : ATurn) : Type 0 where
   -- an endless move ends "when input 2 falls between two samples"
   pub edge : (up : Bool) (left : ℕ) → waitOf t ≡ Wait.Move up true left → falls (t .unit .core .motor .sample) (t .sample) ≡ true
       → Waits t Wait.Nothing
+  -- else it goes on, while there is range left: "greatest number is the distance to the end of the range"
+  pub endless-up-on : (left : ℕ) → waitOf t ≡ Wait.Move true true left → falls (t .unit .core .motor .sample) (t .sample) ≡ false → here t < top
+      → Waits t (Wait.Move true true (top - here t))
+  pub endless-down-on : (left : ℕ) → waitOf t ≡ Wait.Move false true left → falls (t .unit .core .motor .sample) (t .sample) ≡ false → 0 < here t
+      → Waits t (Wait.Move false true (here t))
   -- away "until clear; then toward zero": "steps count before the sample"
   pub away-on : (left n : ℕ) → waitOf t ≡ Wait.LegAway left n → atFlag t ≡ true → t .steps < left → Waits t (Wait.LegAway (left - t .steps) n)
   pub away-clear : (left n : ℕ) → n ≤ top → waitOf t ≡ Wait.LegAway left n → atFlag t ≡ false → Waits t (Wait.LegToward (n + 400))
