@@ -7,9 +7,9 @@ use native.Mathlib.Omega.{arith}
 use lib.ListN.{length, getD}
 use lib.Dec.{leb, eqb}
 use borrow.Author.Tests.{eq-eqb, ne-eqb, leb-true}
+use Rattle.parts.specs.Letters.{bytes}
 use Rattle.commands.specs.Table.{oneOf}
 use Rattle.commands.proofs.TableLaws.{each}
-use Rattle.lines.specs.Examples.{bytes}
 use Rattle.frames.specs.declared.Frame.{Frame}
 use Rattle.frames.specs.Addresses.{pairs, fours, pairOf, fourOf, calledOf}
 use Rattle.claims.specs.Demand1.{From}

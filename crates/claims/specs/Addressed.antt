@@ -5,8 +5,8 @@ use mathlib.Core.Path.{_≡_}
 use mathlib.Core.Bool.{false}
 use mathlib.Core.List.{[], _∷_}
 use lib.ListN.{getD}
+use Rattle.parts.specs.Letters.{bytes}
 use Rattle.commands.specs.Table.{oneOf}
-use Rattle.lines.specs.Examples.{bytes}
 use Rattle.frames.specs.declared.Frame.{Frame}
 use Rattle.frames.specs.Addresses.{calledOf}
 
