@@ -1,22 +1,20 @@
 -- What a body is, and what is answered of it: the line check's code, nothing to count, or its text. Assumes nothing.
 use Prim.Native.Nat.{ℕ}
 use mathlib.Core.Path.{_≡_, refl, sym, subst}
-use mathlib.Core.List.{List, [], _∷_}
+use mathlib.Core.List.{List, []}
 use mathlib.Core.Bool.{false≢true}
-use lib.ListN.{length, take}
-use lib.Dec.{ltb}
+use lib.ListN.{take}
 use borrow.Author.Tests.{ne-eqb}
-use Rattle.parts.specs.Parts.{part, same}
-use Rattle.parts.proofs.Laws.{cases}
+use Rattle.parts.specs.Parts.{part}
 use Rattle.commands.specs.declared.Fault.{Fault}
 use Rattle.commands.specs.Table.{oneOf}
 use Rattle.commands.specs.Reading.{readBy}
 use Rattle.lines.specs.declared.Body.{Body}
 use Rattle.lines.specs.declared.Taken.{Taken}
 use Rattle.lines.specs.Texts.{readingIn, readingBy, unplaced, faultPlaces, lineJudged}
-use Rattle.lines.specs.Bodies.{Row, immediates, immediateIn, beginsImmediate, otherOf, bodyOf, lineOf, takenFault, bodyFault, bodyCode, lineFault}
+use Rattle.lines.specs.Bodies.{bodyOf, lineOf, takenFault, bodyFault, bodyCode, lineFault}
 use Rattle.lines.specs.Loops.{Checked}
-use Rattle.lines.proofs.CodeLaws.{Code, two, TakenCode, taken-code}
+use Rattle.lines.proofs.CodeLaws.{Code, TakenCode, taken-code, BodyCode, body-code}
 use Rattle.lines.proofs.TakenLaws.{held, stored, text-checked}
 use Rattle.lines.proofs.SpellLaws.{line-short}
 use Rattle.courses.specs.Meaning.{tailOf, courseOf, cost, courseIn, commandsIn}
@@ -26,28 +24,6 @@ use Rattle.forecast.specs.Pass.{takenCounted, lineCounted}
 use Rattle.forecast.proofs.CountLaws.{text-counted}
 
 -- ---- the line check's code
-
-abbrev BodyTwo : Body → Type 0
-BodyTwo (Body.Refused f) = Code f
-BodyTwo Body.Empty = Unit
-BodyTwo (Body.Immediate i) = Unit
-BodyTwo Body.Run = Unit
-BodyTwo Body.Again = Unit
-BodyTwo Body.Line = Unit
-
-immediate-two : (rs : List Row) (b : List ℕ) → BodyTwo (immediateIn rs b)
-unfolding immediateIn
-immediate-two [] b = two
-immediate-two (r ∷ rs) b = cases BodyTwo (same b (r .bytes)) (λ e. tt) (λ e. immediate-two rs b)
-
-other-two : (b : List ℕ) → BodyTwo (otherOf b)
-other-two b = cases BodyTwo (same b []) (λ e. tt) (λ e. cases BodyTwo (same b (82 ∷ [])) (λ e. tt) (λ e. cases BodyTwo (same b (88 ∷ [])) (λ e. tt) (λ e. tt)))
-
-body-two : (b : List ℕ) → BodyTwo (bodyOf b)
-unfolding bodyOf
-body-two b =
-    cases BodyTwo (ltb mostBytes (length b)) (λ e. two)
-    (λ e. cases BodyTwo (beginsImmediate b) (λ e. immediate-two immediates b) (λ e. other-two b))
 
 no-zero : (f : Fault) → Code f → f .code ≡ 0 → ⊥
 unfolding oneOf
@@ -60,7 +36,7 @@ told-fault b f h e =
 
 pub body-refused : (b : List ℕ) (f : Fault) → bodyOf b ≡ Body.Refused f → Counted.Refused f ≡ countOf b
 unfolding lineFault
-body-refused b f e = told-fault b f (subst BodyTwo e (body-two b)) (rw e)
+body-refused b f e = told-fault b f (subst BodyCode e (body-code b)) (rw e)
 
 -- ---- nothing to count
 
