@@ -70,8 +70,12 @@ module _ (u : ℕ) (h : From 1 16 u) where
   four-so : calledOf u (fourByte u) ≡ Frame.Group
   unfolding calledOf pairOf fourOf pairs fours bytes
   four-so =
-      rw (from-unit u h, ne-eqb (fourByte u) (0x30 + u) (λ q. omega (arith, h .1, four-high u (h .1))), eq-eqb (fourByte u) (fourByte u) refl,
-      second (eqb (fourByte u) (pairByte u)) (eqb (fourByte u) 0x5F || false))
+      rw (
+        from-unit u h,
+        ne-eqb (fourByte u) (0x30 + u) (λ q. omega (arith, h .1, four-high u (h .1))),
+        eq-eqb (fourByte u) (fourByte u) refl,
+        second (eqb (fourByte u) (pairByte u)) (eqb (fourByte u) 0x5F || false),
+      )
 
   all-so : calledOf u 0x5F ≡ Frame.Group
   unfolding calledOf
