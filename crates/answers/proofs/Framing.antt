@@ -13,7 +13,7 @@ use borrow.Author.Tests.{le-leb, lt-leb, eq-eqb, ne-eqb, eqb-true, eqb-false}
 use Rattle.parts.specs.Letters.{stx, etx, cr, lf, slash}
 use Rattle.parts.specs.Parts.{part, same}
 use Rattle.parts.proofs.Laws.{same-is, same-self}
-use Rattle.answers.specs.Packet.{hostAddress, frameOf, tail, packet, dataAt, aroundData, mostData}
+use Rattle.answers.specs.Packet.{hostAddress, packetAround, tail, packet, dataAt, aroundData, mostData}
 use Rattle.answers.specs.Reading.{statusIn, dataIn, framedBy, framed, oneBy, insideBy, Roomy}
 use Rattle.answers.specs.Reading.{printable, allPrintable, goodData, goodStatus, bit}
 use Rattle.answers.specs.Oem.{oemTail, oemPacket, aroundOem}
@@ -48,7 +48,7 @@ split k s h =
 
 -- a framing: what it makes of status and data is a frame, with so many bytes around the data
 pub record Framing (make : ℕ → List ℕ → List ℕ) (around start : ℕ) (back : ℕ → List ℕ → List ℕ) : Type 0 where
-  pub made : (status : ℕ) (bytes : List ℕ) → make status bytes ≡ frameOf start (back status bytes) status bytes
+  pub made : (status : ℕ) (bytes : List ℕ) → make status bytes ≡ packetAround start (back status bytes) status bytes
   pub long : (status : ℕ) (bytes : List ℕ) → dataAt + length (back status bytes) ≡ around
 
 pub plain : Framing packet aroundData slash (λ _ _. tail)
@@ -73,7 +73,7 @@ module _ {make : ℕ → List ℕ → List ℕ} {around start : ℕ} {back : ℕ
     pub framed-long : around + length (dataIn around s) ≡ length s
     framed-long = sym (ap length framed-is ∙ length-made (statusIn s) (dataIn around s))
 
-    framed-as : s ≡ frameOf start (back (statusIn s) (dataIn around s)) (statusIn s) (dataIn around s)
+    framed-as : s ≡ packetAround start (back (statusIn s) (dataIn around s)) (statusIn s) (dataIn around s)
     framed-as = framed-is ∙ g .made (statusIn s) (dataIn around s)
 
     pub framed-first : getD s 0 0 ≡ start

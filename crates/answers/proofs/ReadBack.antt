@@ -17,7 +17,7 @@ use Rattle.digits.specs.declared.Written.{Written}
 use Rattle.digits.specs.declared.Written.the-variants.{Past}
 use Rattle.digits.proofs.ReadBack.{Digits, none, one, digits-digits}
 use Rattle.answers.specs.Packet.{lowFour, statusOf, dataAt, aroundData, mostData, packetBytes, numberData, PacketAs}
-use Rattle.answers.specs.Reading.{statusIn, dataIn, framedBy, oneBy, insideBy, foundOf, refused, toldOf}
+use Rattle.answers.specs.Reading.{statusIn, dataIn, framedBy, oneBy, insideBy, foundOf, packetRefused, toldOf}
 use Rattle.answers.specs.Reading.{bit, goodStatus, allPrintable, goodData}
 use Rattle.answers.specs.AnswerClaims.{ToldAs, GenuineAs, StatusBits}
 use Rattle.answers.specs.declared.Packet.{Packet}
@@ -172,7 +172,7 @@ module _ (isFramed : Bool) (around : ℕ) (s : List ℕ) where
   unfolding insideBy
   told-packet e = rw e
 
-  told-refused : oneBy isFramed around s ≡ false → toldOf (insideBy isFramed around s) ≡ refused
+  told-refused : oneBy isFramed around s ≡ false → toldOf (insideBy isFramed around s) ≡ packetRefused
   unfolding insideBy toldOf
   told-refused e = rw e
 
@@ -192,7 +192,7 @@ module _ (isFramed : Bool) (around : ℕ) (s : List ℕ) where
       go true f = refl
       go false f = let z : _≡_ {A = ℕ} 0 1 = cc in absurd (omega arith)
 
-  pub refused-zeros : toldOf (insideBy isFramed around s) .found ≡ NotOnePacket → toldOf (insideBy isFramed around s) ≡ refused
+  pub refused-zeros : toldOf (insideBy isFramed around s) .found ≡ NotOnePacket → toldOf (insideBy isFramed around s) ≡ packetRefused
   refused-zeros e = told-refused (go (oneBy isFramed around s) (sym which ∙ e))
     where
       go : (t : Bool) → foundOf t ≡ NotOnePacket → t ≡ false

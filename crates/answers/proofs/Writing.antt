@@ -15,11 +15,11 @@ use Rattle.digits.specs.Decimal.{decimal, WrittenIs}
 use Rattle.digits.specs.declared.Written.{Written}
 use Rattle.digits.specs.declared.Written.the-variants.{Past, NoRoom}
 use Rattle.digits.proofs.Writing.{length-most, is-written, is-refused}
-use Rattle.answers.specs.Packet.{hostAddress, frameOf, dataAt, mostData, mostDigits, numberData, PacketAs}
+use Rattle.answers.specs.Packet.{hostAddress, packetAround, dataAt, mostData, mostDigits, numberData, PacketAs}
 use Rattle.answers.specs.declared.Data.{Data}
 
 pub length-frame : (start : ℕ) (back : List ℕ) (status : ℕ) (bytes : List ℕ)
-    → length (frameOf start back status bytes) ≡ dataAt + length bytes + length back
+    → length (packetAround start back status bytes) ≡ dataAt + length bytes + length back
 length-frame start back status bytes = simp length-append (omega arith)
 
 -- ---- the promise, met each way
@@ -44,21 +44,21 @@ packet-as e p = record { answers = p .answers ∙ rw e; leaves = p .leaves ∙ r
 
 -- head, data and tail, written in turn, are the whole
 put-whole : (xs : List ℕ) (start status : ℕ) (bytes back : List ℕ)
-    → put (put (put xs 0 (start ∷ hostAddress ∷ status ∷ [])) 3 bytes) (3 + length bytes) back ≡ put xs 0 (frameOf start back status bytes)
+    → put (put (put xs 0 (start ∷ hostAddress ∷ status ∷ [])) 3 bytes) (3 + length bytes) back ≡ put xs 0 (packetAround start back status bytes)
 put-whole xs start status bytes back =
     ap (λ (l : List ℕ). put l (3 + length bytes) back) (put-more xs 0 (start ∷ hostAddress ∷ status ∷ []) zero-le 3 bytes refl)
     ∙ put-more xs 0 (start ∷ hostAddress ∷ status ∷ bytes) zero-le (3 + length bytes) back (omega arith)
 
 module _ {start : ℕ} {back : List ℕ} {buffer : List ℕ} {status : ℕ} {bytes : List ℕ} (h : length bytes ≤ mostData) where
-  pub no-room : length buffer < dataAt + length bytes + length back → PacketAs (frameOf start back) buffer status bytes NoRoom buffer
+  pub no-room : length buffer < dataAt + length bytes + length back → PacketAs (packetAround start back) buffer status bytes NoRoom buffer
   no-room g =
       let long = length-frame start back status bytes in
-      is-packet {make = frameOf start back} h (is-refused buffer 0 (frameOf start back status bytes) (omega arith))
+      is-packet {make = packetAround start back} h (is-refused buffer 0 (packetAround start back status bytes) (omega arith))
 
   -- the same, told by `put_at`
   pub written : {x y z : List ℕ} {p q r : Bool} → dataAt + length bytes + length back ≤ length buffer
       → PutIs buffer 0 (start ∷ hostAddress ∷ status ∷ []) p x → PutIs x 3 bytes q y → PutIs y (3 + length bytes) back r z
-      → PacketAs (frameOf start back) buffer status bytes (Past (dataAt + length bytes + length back)) z
+      → PacketAs (packetAround start back) buffer status bytes (Past (dataAt + length bytes + length back)) z
   written {x} {y} {z} room a b c =
       let head : List ℕ = start ∷ hostAddress ∷ status ∷ [] in
       let long = length-frame start back status bytes in
@@ -67,8 +67,8 @@ module _ {start : ℕ} {back : List ℕ} {buffer : List ℕ} {status : ℕ} {byt
       let x-is : x ≡ put buffer 0 head = a .leaves ∙ put-in-room buffer 0 head (omega arith) in
       let y-is : y ≡ put x 3 bytes = b .leaves ∙ put-in-room x 3 bytes (omega arith) in
       let z-is : z ≡ put y (3 + length bytes) back = c .leaves ∙ put-in-room y (3 + length bytes) back (omega arith) in
-      let whole : z ≡ put buffer 0 (frameOf start back status bytes) = z-is ∙ rw (y-is, x-is) (put-whole buffer start status bytes back) in
-      is-packet {make = frameOf start back} h (is-written buffer 0 (frameOf start back status bytes) (omega arith) (omega arith) whole)
+      let whole : z ≡ put buffer 0 (packetAround start back status bytes) = z-is ∙ rw (y-is, x-is) (put-whole buffer start status bytes back) in
+      is-packet {make = packetAround start back} h (is-written buffer 0 (packetAround start back status bytes) (omega arith) (omega arith) whole)
 
 -- no second answer meets the promise
 pub packet-once : {make : ℕ → List ℕ → List ℕ} {buffer : List ℕ} {status : ℕ} {bytes : List ℕ} {r s : Written} {x y : List ℕ}

@@ -6,7 +6,7 @@ use mathlib.Core.Bool.{Bool}
 use Rattle.parts.specs.Letters.{stx, etx}
 use Rattle.digits.specs.declared.Written.{Written}
 use Rattle.checksum.specs.Checksum.{checksumOf}
-use Rattle.answers.specs.Packet.{hostAddress, frameOf, PacketAs}
+use Rattle.answers.specs.Packet.{hostAddress, packetAround, PacketAs}
 use Rattle.answers.specs.Reading.{framedBy, oneBy, insideBy, toldOf}
 use Rattle.answers.specs.declared.Packet.{Packet}
 
@@ -20,7 +20,7 @@ oemTail status bytes = etx ∷ oemSum status bytes ∷ []
 
 -- "The answer is 02, `0`, status, data, 03 and its checksum"
 unfoldable pub oemPacket : ℕ → List ℕ → List ℕ
-oemPacket status bytes = frameOf stx (oemTail status bytes) status bytes
+oemPacket status bytes = packetAround stx (oemTail status bytes) status bytes
 
 -- three bytes stand before the data, two behind it
 abbrev pub aroundOem : ℕ

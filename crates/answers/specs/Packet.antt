@@ -16,8 +16,8 @@ abbrev pub hostAddress : ℕ
 hostAddress = byte "0"
 
 -- a packet of either framing: its first byte and its tail stand around "`0`, status, data"
-abbrev pub frameOf : ℕ → List ℕ → ℕ → List ℕ → List ℕ
-frameOf start back status bytes = start ∷ hostAddress ∷ status ∷ (bytes ++ back)
+abbrev pub packetAround : ℕ → List ℕ → ℕ → List ℕ → List ℕ
+packetAround start back status bytes = start ∷ hostAddress ∷ status ∷ (bytes ++ back)
 
 -- 03, CR, LF
 abbrev pub tail : List ℕ
@@ -25,7 +25,7 @@ tail = etx ∷ cr ∷ lf ∷ []
 
 -- "`/`, `0`, status, data, 03, CR, LF"
 unfoldable pub packet : ℕ → List ℕ → List ℕ
-packet status bytes = frameOf slash tail status bytes
+packet status bytes = packetAround slash tail status bytes
 
 -- three bytes stand before the data, three behind it
 abbrev pub dataAt : ℕ

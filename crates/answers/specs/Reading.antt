@@ -71,8 +71,8 @@ foundOf true = OnePacket
 foundOf false = NotOnePacket
 
 -- a refusal has zeros beside its name
-abbrev pub refused : Packet
-refused = record { found = foundOf false; status = 0; idle = false; code = 0; at = 0; length = 0 }
+abbrev pub packetRefused : Packet
+packetRefused = record { found = foundOf false; status = 0; idle = false; code = 0; at = 0; length = 0 }
 
 -- what the host is told: "bit 5 set when idle", "low four bits the code", and where the data lies
 unfoldable pub toldOf : Inside → Packet
@@ -84,7 +84,7 @@ toldOf (StatusData status n) = record {
   at = dataAt;
   length = n;
 }
-toldOf Neither = refused
+toldOf Neither = packetRefused
 
 abbrev pub readOf : List ℕ → Packet
 readOf s = toldOf (insideBy (framed s) aroundData s)

@@ -1,6 +1,6 @@
 // Answers: the status, a packet written from a status and data, a packet read, in both framings.
 ghost use mathlib.Core.Path.{_≡_};
-ghost use Rattle.answers.specs.Packet.{statusOf, numberData, frameOf, PacketAs, PacketIs};
+ghost use Rattle.answers.specs.Packet.{statusOf, numberData, packetAround, PacketAs, PacketIs};
 ghost use Rattle.answers.specs.Reading.{framed, goodStatus, goodData, insideBy, Roomy, toldOf, readOf};
 ghost use Rattle.answers.specs.Oem.{oemSum, OemPacketIs, oemFramed, readOemOf};
 ghost use Rattle.answers.specs.AnswerClaims.{AnswerClaims};
@@ -113,7 +113,7 @@ pub fn write_oem_packet(buffer: &mut [u8], status: u8, data: &[u8]) -> Written
 
 // The packet of either framing, by its first byte and its tail.
 fn write_framed(buffer: &mut [u8], start: u8, status: u8, data: &[u8], tail: &[u8]) -> Written
-    ensures { λ r. ⌜ PacketAs (frameOf start (now (tail .entry))) (now (buffer .entry)) status (now («data» .entry)) r (now (buffer .exit)) ⌝ }
+    ensures { λ r. ⌜ PacketAs (packetAround start (now (tail .entry))) (now (buffer .entry)) status (now («data» .entry)) r (now (buffer .exit)) ⌝ }
 {
     let n = data.len();
     if MOST_DATA < n {

@@ -25,7 +25,7 @@ none false false true d e = let z : _≡_ {A = ℕ} 0 1 = cc in absurd (omega ar
 none false false false true e = let z : _≡_ {A = ℕ} 0 1 = cc in absurd (omega arith)
 
 others-so : (u b : ℕ) → From 1 16 u → (eqb b (0x30 + u) || (eqb b (pairByte u) || (eqb b (fourByte u) || (eqb b 0x5F || false)))) ≡ false → calledOf u b ≡ Frame.Nothing
-unfolding calledOf pairOf fourOf pairs fours bytes
+unfolding calledOf pairOf fourOf pairs fours
 others-so u b h e =
     let k = none (eqb b (0x30 + u)) (eqb b (pairByte u)) (eqb b (fourByte u)) (eqb b 0x5F) e in
     rw (from-unit u h, k .0, k .1, k .2, k .3)
@@ -40,11 +40,11 @@ least m (x ∷ xs) e zero l = leb-true m x (and-eq-true-iff (leb m x) (each (leb
 least m (x ∷ xs) e (suc k) l = least m xs (and-eq-true-iff (leb m x) (each (leb m) xs) .0 e .1) k (omega arith)
 
 pair-high : (u : ℕ) → u ≤ 16 → 65 ≤ pairByte u
-unfolding each bytes
+unfolding each
 pair-high u h = least 65 (bytes "ACEGIKMO") refl ((u - 1) / 2) (omega arith)
 
 four-high : (u : ℕ) → u ≤ 16 → 65 ≤ fourByte u
-unfolding each bytes
+unfolding each
 four-high u h = least 65 (bytes "QUY]") refl ((u - 1) / 4) (omega arith)
 
 second : (a b : Bool) → (a || (true || b)) ≡ true
@@ -64,11 +64,11 @@ module _ (u : ℕ) (h : From 1 16 u) where
   own-so = rw (from-unit u h, eq-eqb (0x30 + u) (0x30 + u) refl)
 
   pair-so : calledOf u (pairByte u) ≡ Frame.Group
-  unfolding calledOf pairOf pairs bytes
+  unfolding calledOf pairOf pairs
   pair-so = rw (from-unit u h, ne-eqb (pairByte u) (0x30 + u) (λ q. omega (arith, h .1, pair-high u (h .1))), eq-eqb (pairByte u) (pairByte u) refl)
 
   four-so : calledOf u (fourByte u) ≡ Frame.Group
-  unfolding calledOf pairOf fourOf pairs fours bytes
+  unfolding calledOf pairOf fourOf pairs fours
   four-so =
       rw (
         from-unit u h,

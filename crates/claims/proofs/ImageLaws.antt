@@ -12,7 +12,7 @@ use borrow.Author.Tests.{lt-ltb, le-ltb, le-leb, lt-leb, leb-true, eq-eqb, ne-eq
 use Rattle.parts.specs.Parts.{part}
 use Rattle.digits.specs.Operand.{operandMost}
 use Rattle.lines.specs.Texts.{textGoodBy}
-use Rattle.image.specs.Image.{slots, wordAt, startIn, lengthIn, entryOf, bodyOf, zeros, goodAt, slotBy, slotsBy, slotText}
+use Rattle.image.specs.Image.{slots, wordAt, startIn, lengthIn, entryOf, slotBody, allZeros, goodAt, slotBy, slotsBy, slotText}
 use Rattle.image.specs.Calls.{checkedBy, storedOf}
 use Rattle.image.proofs.SlotLaws.{sound, slot-judged, no-slot, slots-each, slots-all}
 use Rattle.claims.specs.Images.{startBits, lengthBits, SlotSo, EverySlot, ImageRow, StoreRow}
@@ -39,20 +39,20 @@ module _ (image : List ℕ) (k : ℕ) where
       let z : 4 * k + 2 + 1 ≡ 4 * k + 3 = omega arith in
       rw (getD-part image (4 * k) 4 2 (omega arith), getD-part image (4 * k) 4 3 (omega arith), z)
 
-  text-is : lengthBits image k ≤ 256 → take (lengthIn entry) (bodyOf image k) ≡ part image (64 + 256 * k) (lengthBits image k)
-  unfolding bodyOf part
+  text-is : lengthBits image k ≤ 256 → take (lengthIn entry) (slotBody image k) ≡ part image (64 + 256 * k) (lengthBits image k)
+  unfolding slotBody part
   text-is l = rw length-is (take-take (lengthBits image k) 256 (drop (64 + 256 * k) image) l)
 
 -- ---- "unused bytes are 0"
 
-zeros-each : (s : List ℕ) → zeros s ≡ true → (i : ℕ) → getD s i 0 ≡ 0
-unfolding zeros
+zeros-each : (s : List ℕ) → allZeros s ≡ true → (i : ℕ) → getD s i 0 ≡ 0
+unfolding allZeros
 zeros-each [] h i = refl
-zeros-each (b ∷ bs) h zero = eqb-true b 0 (and-eq-true-iff (eqb b 0) (zeros bs) .0 h .0)
-zeros-each (b ∷ bs) h (suc i) = zeros-each bs (and-eq-true-iff (eqb b 0) (zeros bs) .0 h .1) i
+zeros-each (b ∷ bs) h zero = eqb-true b 0 (and-eq-true-iff (eqb b 0) (allZeros bs) .0 h .0)
+zeros-each (b ∷ bs) h (suc i) = zeros-each bs (and-eq-true-iff (eqb b 0) (allZeros bs) .0 h .1) i
 
-zeros-all : (s : List ℕ) → ((i : ℕ) → i < length s → getD s i 0 ≡ 0) → zeros s ≡ true
-unfolding zeros
+zeros-all : (s : List ℕ) → ((i : ℕ) → i < length s → getD s i 0 ≡ 0) → allZeros s ≡ true
+unfolding allZeros
 zeros-all [] h = refl
 zeros-all (b ∷ bs) h = rw (eq-eqb b 0 (h 0 (omega arith)), zeros-all bs (λ i l. h (suc i) (omega arith)))
 
@@ -61,23 +61,23 @@ module _ (image : List ℕ) (k : ℕ) (long : length image ≡ 4160) (slot : k <
   at = lengthBits image k
 
   abbrev body : List ℕ
-  body = bodyOf image k
+  body = slotBody image k
 
   body-long : length body ≡ 256
-  unfolding bodyOf part
+  unfolding slotBody part
   body-long = simp (length-take, length-drop) (omega arith)
 
   -- a byte of the body, where it stands in the image
   there : (i : ℕ) → i < 256 → getD body i 0 ≡ getD image (64 + 256 * k + i) 0
-  unfolding bodyOf
+  unfolding slotBody
   there i l = getD-part image (64 + 256 * k) 256 i l
 
-  unused-each : zeros (drop at body) ≡ true → (i : ℕ) → at ≤ i → i < 256 → getD image (64 + 256 * k + i) 0 ≡ 0
+  unused-each : allZeros (drop at body) ≡ true → (i : ℕ) → at ≤ i → i < 256 → getD image (64 + 256 * k + i) 0 ≡ 0
   unused-each h i l g =
       let e : at + (i - at) ≡ i = omega arith in
       sym (there i g) ∙ sym (ap (λ (j : ℕ). getD body j 0) e) ∙ sym (getD-drop at body (i - at) 0) ∙ zeros-each (drop at body) h (i - at)
 
-  unused-all : ((i : ℕ) → at ≤ i → i < 256 → getD image (64 + 256 * k + i) 0 ≡ 0) → zeros (drop at body) ≡ true
+  unused-all : ((i : ℕ) → at ≤ i → i < 256 → getD image (64 + 256 * k + i) 0 ≡ 0) → allZeros (drop at body) ≡ true
   unused-all h = zeros-all (drop at body) (λ i l.
       let g : at + i < 256 = omega (arith, body-long, length-drop at body) in
       getD-drop at body i 0 ∙ there (at + i) g ∙ h (at + i) (omega arith) g)
@@ -88,7 +88,7 @@ module _ (image : List ℕ) (k : ℕ) (long : length image ≡ 4160) (slot : k <
     unfolding goodAt
     slot-so h =
         let g = sym (slot-judged most image k long slot) ∙ h in
-        let three = and-eq-true-iff _ (zeros (drop (lengthIn (entryOf image k)) body)) .0 g in
+        let three = and-eq-true-iff _ (allZeros (drop (lengthIn (entryOf image k)) body)) .0 g in
         let two = and-eq-true-iff _ (textGoodBy most (take (lengthIn (entryOf image k)) body)) .0 (three .0) in
         let one = and-eq-true-iff (eqb (startIn (entryOf image k)) (64 + 256 * k)) (leb (lengthIn (entryOf image k)) 256) .0 (two .0) in
         let fits : at ≤ 256 = rw (length-is image k) at (leb-true (lengthIn (entryOf image k)) 256 (one .1)) in

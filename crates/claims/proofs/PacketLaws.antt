@@ -9,14 +9,14 @@ use lib.ListN.{length, getD}
 use lib.Dec.{leb}
 use borrow.Author.Tests.{le-leb, leb-true}
 use Rattle.answers.specs.Packet.{packet, statusOf}
-use Rattle.answers.specs.Reading.{bit, printable, allPrintable, goodData, refused, readOf}
+use Rattle.answers.specs.Reading.{bit, printable, allPrintable, goodData, packetRefused, readOf}
 use Rattle.answers.specs.Names.{foundName}
 use Rattle.answers.specs.Oem.{oemSum, oemTail, oemPacket, readOemOf}
 use Rattle.answers.specs.declared.Packet.{Packet}
 use Rattle.answers.specs.declared.Found.{Found}
 use Rattle.answers.specs.declared.Found.the-variants.{OnePacket, NotOnePacket}
 use Rattle.answers.specs.AnswerClaims.{carried, ToldAs, GenuineAs, AnswerClaims}
-use Rattle.claims.specs.Packets.{statusByte, Data, plain, summed, One, one, Told, Reads, PacketRow}
+use Rattle.claims.specs.Packets.{statusByte, Data, plain, oemSummed, One, one, PacketTold, ReadsPackets, PacketRow}
 
 -- ---- status and data
 
@@ -55,7 +55,7 @@ plain-so : (status : ℕ) (d : List ℕ) → packet status d ≡ plain status d
 unfolding packet
 plain-so status d = refl
 
-summed-so : (status : ℕ) (d : List ℕ) → oemPacket status d ≡ summed status d
+summed-so : (status : ℕ) (d : List ℕ) → oemPacket status d ≡ oemSummed status d
 unfolding oemPacket oemTail oemSum
 summed-so status d = ap (λ (l : List ℕ). 0x02 ∷ 0x30 ∷ status ∷ l) (sym (append-assoc d (0x03 ∷ []) _))
 
@@ -66,14 +66,14 @@ module _ (defined make : ℕ → List ℕ → List ℕ) (read : List ℕ → Pac
     (back : (idle : Bool) (code : ℕ) (d : List ℕ) → goodData d ≡ true
     → ToldAs (read (defined (statusOf idle code) d)) (defined (statusOf idle code) d) idle code d)
     (genuine : (s : List ℕ) → read s .found ≡ OnePacket → GenuineAs defined (read s) s)
-    (zeros : (s : List ℕ) → read s .found ≡ NotOnePacket → read s ≡ refused) where
+    (zeros : (s : List ℕ) → read s .found ≡ NotOnePacket → read s ≡ packetRefused) where
   tells : (idle : Bool) (code : ℕ) (d : List ℕ) → code < 16 → Data d
-      → Told (make (statusByte idle code) d) idle code d (read (make (statusByte idle code) d))
+      → PacketTold (make (statusByte idle code) d) idle code d (read (make (statusByte idle code) d))
   tells idle code d h g =
       let e : defined (statusOf idle code) d ≡ make (statusByte idle code) d = so _ d ∙ ap (λ (s : ℕ). make s d) (status-so idle code h) in
       let k = back idle code d (data-good d g) in
       let low : code % 16 ≡ code = omega arith in
-      subst (λ (s : List ℕ). Told s idle code d (read s)) e
+      subst (λ (s : List ℕ). PacketTold s idle code d (read s)) e
       (record { named = ap foundName (k .as-packet); as-idle = k .as-idle; as-code = k .as-code ∙ low; as-data = k .as-data })
 
   is-one : (s : List ℕ) → getD s 2 0 < 256 → read s .found ≡ OnePacket → One make s
@@ -86,18 +86,18 @@ module _ (defined make : ℕ → List ℕ → List ℕ) (read : List ℕ → Pac
       let made : n ≡ statusByte (bit 5 n) (n % 16) = answers .status-only n small (g .status-good) ∙ status-so (bit 5 n) (n % 16) (omega arith) in
       subst (One make) (sym (whole ∙ ap (λ (m : ℕ). make m d) made)) (one (bit 5 n) (n % 16) d (omega arith) (good-data d (g .data-good)))
 
-  refuses : (s : List ℕ) → getD s 2 0 < 256 → (One make s → ⊥) → (foundName (read s .found) ≡ "not exactly one packet") × (read s ≡ refused)
+  refuses : (s : List ℕ) → getD s 2 0 < 256 → (One make s → ⊥) → (foundName (read s .found) ≡ "not exactly one packet") × (read s ≡ packetRefused)
   refuses s h n = go (read s .found) refl
     where
-      go : (f : Found) → read s .found ≡ f → (foundName (read s .found) ≡ "not exactly one packet") × (read s ≡ refused)
+      go : (f : Found) → read s .found ≡ f → (foundName (read s .found) ≡ "not exactly one packet") × (read s ≡ packetRefused)
       go OnePacket e = absurd (n (is-one s h e))
       go NotOnePacket e = (ap foundName e, zeros s e)
 
-  reads : Reads make read
+  reads : ReadsPackets make read
   reads = record { tells = tells; refuses = refuses }
 
 pub packet-row : AnswerClaims → PacketRow
 packet-row a = record {
   in-plain = reads packet plain readOf plain-so (λ s d. refl) a (a .reads-back) (a .nothing-else) (a .refused-zeros);
-  in-oem = reads oemPacket summed readOemOf summed-so (λ s d. refl) a (a .reads-back-oem) (a .nothing-else-oem) (a .refused-zeros-oem);
+  in-oem = reads oemPacket oemSummed readOemOf summed-so (λ s d. refl) a (a .reads-back-oem) (a .nothing-else-oem) (a .refused-zeros-oem);
 }

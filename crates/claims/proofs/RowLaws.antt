@@ -24,7 +24,7 @@ use Rattle.answers.specs.Packet.{packetBytes}
 use Rattle.ramp.specs.declared.Verdict.{Verdict}
 use Rattle.ramp.specs.declared.Verdict.the-variants.{Taken, RefusedV, RefusedL, RefusedN}
 use Rattle.ramp.specs.Ramp.{figuresOf, verdictName}
-use Rattle.ramp.specs.Claims.{When, Outcome}
+use Rattle.ramp.specs.Claims.{When, Verdicts}
 use Rattle.obeying.specs.Obeying.{placeTold, dataOf}
 use Rattle.turns.specs.Turns.{freshCore}
 use Rattle.drive.specs.Unit.{Drive}
@@ -96,7 +96,7 @@ turn-row u sample ms steps image =
 
 -- ---- ramp
 
-pub ramp-row : ((v l : ℕ) (endless : Bool) (n : ℕ) → Outcome v l endless n (figuresOf v l endless n))
+pub ramp-row : ((v l : ℕ) (endless : Bool) (n : ℕ) → Verdicts v l endless n (figuresOf v l endless n))
     → (v l : ℕ) (endless : Bool) (n : ℕ) → RampRow v l endless n
 ramp-row outcome v l endless n = record {
   v-outside = λ a. no RefusedV _ refl (λ e. let z : _≡_ {A = ℕ} 0 1 = cc in absurd (omega arith)) a;

@@ -4,6 +4,7 @@ use Prim.Native.Nat.{ℕ, _≤_, _<_}
 use mathlib.Core.Path.{_≡_}
 use mathlib.Core.List.{List, _∷_}
 use lib.ListN.{length}
+use Rattle.parts.specs.Letters.{byte}
 use Rattle.commands.specs.declared.Command.{Command}
 use Rattle.commands.specs.Table.{commandOf}
 use Rattle.lines.specs.Texts.{these, bareFrom}
@@ -14,12 +15,12 @@ use Rattle.forecast.specs.Count.{bodyText, countOf, countedName}
 
 -- "`e`, `S`, `H`, bare `G` or a `G`, `P` or `D` of 0", by their letters
 pub data Uncounted : Command → Type 0 where
-  jump : (n : ℕ) → Uncounted (commandOf 101 n)
-  skip : (n : ℕ) → Uncounted (commandOf 83 n)
-  wait : (n : ℕ) → Uncounted (commandOf 72 n)
-  loop-0 : Uncounted (commandOf 71 0)
-  up-0 : Uncounted (commandOf 80 0)
-  down-0 : Uncounted (commandOf 68 0)
+  jump : (n : ℕ) → Uncounted (commandOf (byte "e") n)
+  skip : (n : ℕ) → Uncounted (commandOf (byte "S") n)
+  wait : (n : ℕ) → Uncounted (commandOf (byte "H") n)
+  loop-0 : Uncounted (commandOf (byte "G") 0)
+  up-0 : Uncounted (commandOf (byte "P") 0)
+  down-0 : Uncounted (commandOf (byte "D") 0)
 
 -- one of a list
 pub data Some : List Command → Type 0 where

@@ -16,7 +16,7 @@ use Rattle.lines.specs.Claims.{LineClaims}
 use Rattle.image.specs.declared.Checked.{Checked}
 use Rattle.image.specs.Image.{rightLength, slots, slotText}
 use Rattle.image.specs.Calls.{checkedOf}
-use Rattle.image.specs.Claims.{Kept, ImageClaims}
+use Rattle.image.specs.Claims.{SlotKept, ImageClaims}
 use Rattle.frames.specs.Claims.{FrameClaims}
 use Rattle.answers.specs.AnswerClaims.{AnswerClaims}
 use Rattle.ramp.specs.Claims.{RampClaims}
@@ -56,7 +56,7 @@ pub record Stores (b : List ℕ) (slot at n : ℕ) (c : Core) (text image : List
   pub text-same : textWritten (bodyObeyed b c .write) b text ≡ text
   pub stored : rightLength image ≡ true → slotText (imageWritten (bodyObeyed b c .write) b image) slot ≡ part b at n
   -- "`s` rewrites one entry and one body" of the image lent with the frame
-  pub elsewhere : (j : ℕ) → j < slots → (j ≡ slot → ⊥) → Kept j image (imageWritten (bodyObeyed b c .write) b image)
+  pub elsewhere : (j : ℕ) → j < slots → (j ≡ slot → ⊥) → SlotKept j image (imageWritten (bodyObeyed b c .write) b image)
   pub stays-good : checkedOf image ≡ Checked.Good → checkedOf (imageWritten (bodyObeyed b c .write) b image) ≡ Checked.Good
 
 pub record LineDoes (b : List ℕ) (c : Core) (text image : List ℕ) : Type 0 where

@@ -8,7 +8,7 @@ use lib.ListN.{length, getD}
 use Rattle.checksum.specs.Checksum.{checksumOf}
 use Rattle.answers.specs.declared.Packet.{Packet}
 use Rattle.answers.specs.Names.{foundName}
-use Rattle.answers.specs.Reading.{refused, readOf}
+use Rattle.answers.specs.Reading.{packetRefused, readOf}
 use Rattle.answers.specs.Oem.{readOemOf}
 use Rattle.answers.specs.AnswerClaims.{carried}
 
@@ -29,27 +29,27 @@ plain status d = 0x2F ∷ 0x30 ∷ status ∷ (d ++ (0x03 ∷ 0x0D ∷ 0x0A ∷ 
 abbrev pub toSum : ℕ → List ℕ → List ℕ
 toSum status d = 0x02 ∷ 0x30 ∷ status ∷ (d ++ (0x03 ∷ []))
 
-abbrev pub summed : ℕ → List ℕ → List ℕ
-summed status d = toSum status d ++ (checksumOf (toSum status d) ∷ [])
+abbrev pub oemSummed : ℕ → List ℕ → List ℕ
+oemSummed status d = toSum status d ++ (checksumOf (toSum status d) ∷ [])
 
 -- "exactly one packet"
 pub data One (make : ℕ → List ℕ → List ℕ) : List ℕ → Type 0 where
   one : (idle : Bool) (code : ℕ) (d : List ℕ) → code < 16 → Data d → One make (make (statusByte idle code) d)
 
 -- what is told of it
-pub record Told (s : List ℕ) (idle : Bool) (code : ℕ) (d : List ℕ) (p : Packet) : Type 0 where
+pub record PacketTold (s : List ℕ) (idle : Bool) (code : ℕ) (d : List ℕ) (p : Packet) : Type 0 where
   pub named : foundName (p .found) ≡ "exactly one packet"
   pub as-idle : p .idle ≡ idle
   pub as-code : p .code ≡ code
   pub as-data : carried p s ≡ d
 
 -- "host: slice not exactly one packet (..) | named refusal"; of a slice of bytes
-pub record Reads (make : ℕ → List ℕ → List ℕ) (read : List ℕ → Packet) : Type 0 where
+pub record ReadsPackets (make : ℕ → List ℕ → List ℕ) (read : List ℕ → Packet) : Type 0 where
   pub tells : (idle : Bool) (code : ℕ) (d : List ℕ) → code < 16 → Data d
-      → Told (make (statusByte idle code) d) idle code d (read (make (statusByte idle code) d))
-  pub refuses : (s : List ℕ) → getD s 2 0 < 256 → (One make s → ⊥) → (foundName (read s .found) ≡ "not exactly one packet") × (read s ≡ refused)
+      → PacketTold (make (statusByte idle code) d) idle code d (read (make (statusByte idle code) d))
+  pub refuses : (s : List ℕ) → getD s 2 0 < 256 → (One make s → ⊥) → (foundName (read s .found) ≡ "not exactly one packet") × (read s ≡ packetRefused)
 
 -- in both framings
 pub record PacketRow : Type 0 where
-  pub in-plain : Reads plain readOf
-  pub in-oem : Reads summed readOemOf
+  pub in-plain : ReadsPackets plain readOf
+  pub in-oem : ReadsPackets oemSummed readOemOf

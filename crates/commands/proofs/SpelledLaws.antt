@@ -29,7 +29,7 @@ use Rattle.commands.specs.declared.Spelling.{Spelling}
 use Rattle.commands.specs.declared.Spelling.the-variants.{Alone, WithNumber, WithTwoDigits}
 use Rattle.commands.specs.Table.{Row, table, find, asksOf, commandOf, oneOf, within}
 use Rattle.commands.specs.Reading.{badOperand, required, orElse, letterAt, readBy, readAt}
-use Rattle.commands.specs.Writing.{spellingOf, permits, permitted, inRange, zeroed, SpellsCommand, full, bareG, bareH, follows, CommandAt}
+use Rattle.commands.specs.Writing.{spellingOf, permits, permitted, inRange, zeroed, SpellsCommand, full, bare-G, bare-H, follows, CommandAt}
 use Rattle.commands.proofs.RangeLaws.{input-most, two-digits, within-two}
 use Rattle.commands.proofs.SpellingLaws.{AsksFor, permits-for, follows-any}
 
@@ -47,8 +47,8 @@ data Bare : ℕ → Command → Type 0 where
 
 bare-spells : {l : ℕ} {c : Command} → Bare l c → SpellsCommand c (l ∷ []) × (inRange c ≡ true)
 unfolding inRange asksOf find table within oneOf
-bare-spells aloneG = (bareG, refl)
-bare-spells aloneH = (bareH, refl)
+bare-spells aloneG = (bare-G, refl)
+bare-spells aloneH = (bare-H, refl)
 
 data Named (c : Command) (sp : Spelling) (l : ℕ) (d : Command) : Type 0 where
   named : spellingOf c ≡ sp → Bare l d → Named c sp l d

@@ -27,7 +27,7 @@ use Rattle.commands.specs.declared.Spelling.{Spelling}
 use Rattle.commands.specs.declared.Spelling.the-variants.{Alone, WithNumber, WithTwoDigits}
 use Rattle.commands.specs.Table.{top, table, find, asksOf, commandOf, within}
 use Rattle.commands.specs.Reading.{badOperand, required, orElse, letterAt, readBy, readAt}
-use Rattle.commands.specs.Writing.{spellingOf, bytesOf, spelled as spelledOf, permits, permitted, inRange, zeroed, SpellsCommand, full, bareG, bareH, follows}
+use Rattle.commands.specs.Writing.{spellingOf, bytesOf, spelled as spelledOf, permits, permitted, inRange, zeroed, SpellsCommand, full, bare-G, bare-H, follows}
 use Rattle.commands.proofs.RangeLaws.{Uncounted, input-most, within-most, uncounted, two-digits, input-digits}
 
 -- what a letter that asks so wants of an operand that is there
@@ -174,8 +174,8 @@ pub reads-as : (s rest b : List ℕ) (at : ℕ) (c : Command) → SpellsCommand 
     → readAt s at ≡ At c (at + length b)
 unfolding inRange asksOf commandOf find table
 reads-as s rest b at c (full d z w) h e t = read-row (row-of d) s rest at z (λ q. w) e t ∙ rw h
-reads-as s rest b at c bareG h e t = read-bare s rest at 71 0 (From 0 30000) refl e t
-reads-as s rest b at c bareH h e t = read-bare s rest at 72 2 Input refl e t
+reads-as s rest b at c bare-G h e t = read-bare s rest at 71 0 (From 0 30000) refl e t
+reads-as s rest b at c bare-H h e t = read-bare s rest at 72 2 Input refl e t
 
 -- no leading zeros are a spelling
 pub zeroed-none : (sp : Spelling) → zeroed sp 0 ≡ bytesOf sp

@@ -18,7 +18,7 @@ use Rattle.commands.specs.declared.Range.{Range}
 use Rattle.commands.specs.declared.Range.the-variants.{Input}
 use Rattle.commands.specs.declared.Spelling.{Spelling}
 use Rattle.commands.specs.Table.{Row, table, asksOf, oneOf}
-use Rattle.commands.specs.Writing.{spellingOf, spelled as spelledOf, zeroed, SpellsCommand, full, bareG, bareH}
+use Rattle.commands.specs.Writing.{spellingOf, spelled as spelledOf, zeroed, SpellsCommand, full, bare-G, bare-H}
 use Rattle.commands.specs.Claims.{apart}
 use Rattle.commands.proofs.TableLaws.{each, each-one, letters, unknown}
 use Rattle.commands.proofs.RangeLaws.{two-digits}
@@ -78,8 +78,8 @@ row-letter (two l n a b) z = let k = two-digits n in record {
 pub letter-first : (c : Command) (b : List ℕ) → SpellsCommand c b → LetterFirst b
 unfolding letters table oneOf
 letter-first c b (full d z w) = row-letter (row-of d) z
-letter-first c b bareG = record { letter = 71; digits = []; bytes = refl; known = refl; all = λ i h. absurd (omega arith) }
-letter-first c b bareH = record { letter = 72; digits = []; bytes = refl; known = refl; all = λ i h. absurd (omega arith) }
+letter-first c b bare-G = record { letter = 71; digits = []; bytes = refl; known = refl; all = λ i h. absurd (omega arith) }
+letter-first c b bare-H = record { letter = 72; digits = []; bytes = refl; known = refl; all = λ i h. absurd (omega arith) }
 
 pub letter-written : (c : Command) → LetterFirst (spelledOf c)
 unfolding spelledOf
@@ -129,5 +129,5 @@ module _ (b : List ℕ) (k : LetterFirst b) where
 -- a spelling's length
 pub spelling-most : (c : Command) (b : List ℕ) → SpellsCommand c b → length b ≤ 1 + operandMost
 spelling-most c b (full d z w) = w
-spelling-most c b bareG = omega arith
-spelling-most c b bareH = omega arith
+spelling-most c b bare-G = omega arith
+spelling-most c b bare-H = omega arith

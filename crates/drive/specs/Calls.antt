@@ -19,7 +19,7 @@ use Rattle.turns.specs.Turns.{freshCore, started, ended, slotBroken, turnCore, 
 use Rattle.answers.specs.Packet.{packet, packetBytes, statusOf}
 use Rattle.answers.specs.Oem.{oemPacket}
 use Rattle.obeying.specs.declared.Obeyed.{Obeyed}
-use Rattle.obeying.specs.Obeying.{dataOf, unheard, bodyObeyed, textWritten, imageWritten}
+use Rattle.obeying.specs.Obeying.{dataOf, nothingObeyed, bodyObeyed, textWritten, imageWritten}
 use Rattle.drive.specs.declared.Last.{Last}
 use Rattle.drive.specs.declared.StartAnswer.{StartAnswer}
 use Rattle.drive.specs.declared.FeedAnswer.{FeedAnswer}
@@ -89,7 +89,7 @@ receivedBy u bytes = receiveOf (u .receiver) (u .number) bytes
 
 -- the body of a completed frame, obeyed
 abbrev pub frameObeyed : Frame → List ℕ → Core → Obeyed
-frameObeyed Frame.Nothing body c = unheard c
+frameObeyed Frame.Nothing body c = nothingObeyed c
 frameObeyed Frame.Alone body c = bodyObeyed body c
 frameObeyed Frame.Group body c = bodyObeyed body c
 

@@ -15,8 +15,8 @@ use Rattle.obeying.specs.Obeying.{busy}
 use Rattle.drive.specs.declared.Last.{Last}
 
 -- "a number in its low three bits, with bit 3 for a repeat"
-abbrev pub numberIn : ℕ → ℕ
-numberIn q = q % 8
+abbrev pub sequenceNumber : ℕ → ℕ
+sequenceNumber q = q % 8
 
 abbrev pub repeats : ℕ → Bool
 repeats q = leb 8 (q % 16)
@@ -25,7 +25,7 @@ repeats q = leb 8 (q % 16)
 abbrev pub isRepeat : Last → Framing → Bool
 isRepeat last Framing.Plain = false
 isRepeat Last.Never (Framing.Oem q) = false
-isRepeat (Last.Number n) (Framing.Oem q) = repeats q && eqb (numberIn q) n
+isRepeat (Last.Number n) (Framing.Oem q) = repeats q && eqb (sequenceNumber q) n
 
 -- "a query other than `?9`": `Q`, `$`, `?0 ?2 ?4 ?6 ?7`, and with E3 `?5`
 abbrev pub asks : Immediate → Bool
@@ -62,7 +62,7 @@ isRefusal code = eqb code malformed || eqb code outOfRange || eqb code busy
 -- "the last OEM frame for this unit or its groups not refused": its number; a plain one leaves it
 abbrev pub numberedBy : Framing → ℕ → Last → Last
 numberedBy Framing.Plain code last = last
-numberedBy (Framing.Oem q) code last = cond (isRefusal code) last (Last.Number (numberIn q))
+numberedBy (Framing.Oem q) code last = cond (isRefusal code) last (Last.Number (sequenceNumber q))
 
 abbrev pub lastAfter : Frame → Framing → ℕ → Last → Last
 lastAfter Frame.Nothing g code last = last

@@ -27,7 +27,7 @@ use Rattle.motor.specs.declared.Last.{Last}
 use Rattle.motor.specs.declared.Moved.{Moved}
 use Rattle.motor.specs.declared.Moved.the-variants.{Goes, Stops}
 use Rattle.motor.specs.Inputs.{high, levelThere, falls, cut, clear}
-use Rattle.motor.specs.Motion.{fresh, last, waiting, placedAt, actionOf, room, reported, finite, homed, movedOn, relative, absolute, delayed, held, delayOn, endlessOn, toward, awayOn, towardOn, isFree, stopped, served}
+use Rattle.motor.specs.Motion.{freshMotor, last, waiting, placedAt, actionOf, room, reported, finite, homed, movedOn, relative, absolute, delayed, held, delayOn, endlessOn, toward, awayOn, towardOn, isFree, stopped, served}
 use Rattle.turns.specs.declared.Core.{Core}
 use Rattle.turns.specs.declared.setting.Settings.{Settings}
 use Rattle.turns.specs.declared.Stepped.{Stepped}
@@ -64,7 +64,7 @@ abbrev Fresh : Core → Type 0
 Fresh c = (u : Drive) → Defaults (drive (u .number) (u .receiver) (u .text) c (u .last))
 
 fresh-core : Fresh freshCore
-unfolding freshCore begun fresh defaults
+unfolding freshCore begun freshMotor defaults
 fresh-core u = record {
   settings = refl;
   sample = refl;
@@ -79,7 +79,7 @@ fresh-core u = record {
 }
 
 started-core : (n : ℕ) → Fresh (started n freshCore)
-unfolding started freshCore begun fresh defaults
+unfolding started freshCore begun freshMotor defaults
 started-core n u = record {
   settings = refl;
   sample = refl;
@@ -95,7 +95,7 @@ started-core n u = record {
 
 -- stopped before it began
 held-core : Fresh (ended 1 freshCore)
-unfolding ended stopped freshCore begun fresh defaults
+unfolding ended stopped freshCore begun freshMotor defaults
 held-core u = record {
   settings = refl;
   sample = refl;

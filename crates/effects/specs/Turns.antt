@@ -6,6 +6,7 @@ use mathlib.Core.List.{List, [], _∷_}
 use mathlib.Core.Bool.{Bool, true, false, cond, not, _&&_}
 use lib.ListN.{length, set}
 use lib.Dec.{ltb, eqb}
+use Rattle.parts.specs.Letters.{byte}
 use Rattle.commands.specs.declared.Read.the-variants.{At}
 use Rattle.commands.specs.Table.{top, commandOf}
 use Rattle.answers.specs.Reading.{bit}
@@ -31,15 +32,15 @@ pub record SameRun (u v : Drive) : Type 0 where
 
 -- their letters, and the place of each among the ten
 pub data Letter : ℕ → ℕ → Type 0 where
-  speed : Letter 86 0
-  acceleration : Letter 76 1
-  flag : Letter 102 2
-  turned : Letter 70 3
-  move-current : Letter 109 4
-  hold-current : Letter 104 5
-  correction : Letter 111 7
-  outputs : Letter 74 8
-  baud : Letter 98 9
+  speed : Letter (byte "V") 0
+  acceleration : Letter (byte "L") 1
+  flag : Letter (byte "f") 2
+  turned : Letter (byte "F") 3
+  move-current : Letter (byte "m") 4
+  hold-current : Letter (byte "h") 5
+  correction : Letter (byte "o") 7
+  outputs : Letter (byte "J") 8
+  baud : Letter (byte "b") 9
 
 -- `V L f F m h j o J b`, of `j` the exponent
 abbrev pub listed : Settings → List ℕ
@@ -129,10 +130,10 @@ pub record Idles (u v : Drive) (sample p : ℕ) : Type 0 where
 
 -- the letters of the commands that lead through the text: `g G S e`
 pub data Flowing : ℕ → Type 0 where
-  begins : Flowing 103
-  ends : Flowing 71
-  skips : Flowing 83
-  enters : Flowing 101
+  begins : Flowing (byte "g")
+  ends : Flowing (byte "G")
+  skips : Flowing (byte "S")
+  enters : Flowing (byte "e")
 
 -- a turn of a unit, and what is handed over
 pub record ATurn : Type 0 where
@@ -182,31 +183,31 @@ pub record EachCommand (t : ATurn) : Type 0 where
   -- "`V` 1 to 16777216" and the other settings
   pub set-one : {l i : ℕ} (n : ℕ) → Letter l i → Takes t l n → Sets t i n
   -- "The record keeps the exponent of `j`, 0 to 8"
-  pub set-step : (e : ℕ) → e ≤ 8 → Takes t 106 (2 ^ e) → Sets t 6 e
+  pub set-step : (e : ℕ) → e ≤ 8 → Takes t (byte "j") (2 ^ e) → Sets t 6 e
   -- `z`: the position is that, and known
-  pub placed : (n : ℕ) → Takes t 122 n → Leads t Wait.Nothing n true
+  pub placed : (n : ℕ) → Takes t (byte "z") n → Leads t Wait.Nothing n true
   -- "`M0` ends at once"
-  pub no-delay : Takes t 77 0 → Waits t Wait.Nothing
-  pub delay : (n : ℕ) → 0 < n → Takes t 77 n → Waits t (Wait.Delay n)
+  pub no-delay : Takes t (byte "M") 0 → Waits t Wait.Nothing
+  pub delay : (n : ℕ) → 0 < n → Takes t (byte "M") n → Waits t (Wait.Delay n)
   -- "`H` tests each turn's sample, the first included"
-  pub level-there : (digits : ℕ) → Takes t 72 digits → levelThere digits (t .sample) ≡ true → Waits t Wait.Nothing
-  pub level-awaited : (digits : ℕ) → Takes t 72 digits → levelThere digits (t .sample) ≡ false
+  pub level-there : (digits : ℕ) → Takes t (byte "H") digits → levelThere digits (t .sample) ≡ true → Waits t Wait.Nothing
+  pub level-awaited : (digits : ℕ) → Takes t (byte "H") digits → levelThere digits (t .sample) ≡ false
       → Waits t (Wait.Input digits)
   -- "`A` to the present position ends at once"
-  pub already-there : Takes t 65 (here t) → knownIn t ≡ true → Leads t Wait.Nothing (here t) true
+  pub already-there : Takes t (byte "A") (here t) → knownIn t ≡ true → Leads t Wait.Nothing (here t) true
   -- a finite move within the range
-  pub up : (n : ℕ) → 0 < n → n ≤ top - here t → Takes t 80 n → knownIn t ≡ true → Leads t (Wait.Move true false n) (here t) true
-  pub down : (n : ℕ) → 0 < n → n ≤ here t → Takes t 68 n → knownIn t ≡ true → Leads t (Wait.Move false false n) (here t) true
-  pub to-above : (n : ℕ) → here t < n → n ≤ top → Takes t 65 n → knownIn t ≡ true → Leads t (Wait.Move true false (n - here t)) (here t) true
-  pub to-below : (n : ℕ) → n < here t → Takes t 65 n → knownIn t ≡ true → Leads t (Wait.Move false false (here t - n)) (here t) true
+  pub up : (n : ℕ) → 0 < n → n ≤ top - here t → Takes t (byte "P") n → knownIn t ≡ true → Leads t (Wait.Move true false n) (here t) true
+  pub down : (n : ℕ) → 0 < n → n ≤ here t → Takes t (byte "D") n → knownIn t ≡ true → Leads t (Wait.Move false false n) (here t) true
+  pub to-above : (n : ℕ) → here t < n → n ≤ top → Takes t (byte "A") n → knownIn t ≡ true → Leads t (Wait.Move true false (n - here t)) (here t) true
+  pub to-below : (n : ℕ) → n < here t → Takes t (byte "A") n → knownIn t ≡ true → Leads t (Wait.Move false false (here t - n)) (here t) true
   -- "`P0`, `D0` are endless: greatest number is the distance to the end of the range"
-  pub endless-up : Takes t 80 0 → knownIn t ≡ true → Leads t (Wait.Move true true (top - here t)) (here t) true
-  pub endless-down : Takes t 68 0 → knownIn t ≡ true → Leads t (Wait.Move false true (here t)) (here t) true
+  pub endless-up : Takes t (byte "P") 0 → knownIn t ≡ true → Leads t (Wait.Move true true (top - here t)) (here t) true
+  pub endless-down : Takes t (byte "D") 0 → knownIn t ≡ true → Leads t (Wait.Move false true (here t)) (here t) true
   -- `Z n`: "If cut, move away at most 10,000 ..; then toward zero at most n", and 400 more by E2
-  pub homes-away : (n : ℕ) → Takes t 90 n → atFlag t ≡ true → Waits t (Wait.LegAway 10000 n)
-  pub homes-toward : (n : ℕ) → n ≤ top → Takes t 90 n → atFlag t ≡ false → Waits t (Wait.LegToward (n + 400))
+  pub homes-away : (n : ℕ) → Takes t (byte "Z") n → atFlag t ≡ true → Waits t (Wait.LegAway 10000 n)
+  pub homes-toward : (n : ℕ) → n ≤ top → Takes t (byte "Z") n → atFlag t ≡ false → Waits t (Wait.LegToward (n + 400))
   -- "`e` makes the slot's text the current text (not where it stops the run with 1)"
-  pub bad-slot : (n : ℕ) → Takes t 101 n → then t .core .running ≡ false → textOf (then t) ≡ textOf (t .unit)
+  pub bad-slot : (n : ℕ) → Takes t (byte "e") n → then t .core .running ≡ false → textOf (then t) ≡ textOf (t .unit)
   -- `g`, `G`, `S` and `e`: where they lead is said of whole runs, and they touch no setting and not the position
   pub flows : {l : ℕ} (n : ℕ) → Flowing l → Takes t l n → Keeps (t .unit) (then t) (t .sample) (here t)
 

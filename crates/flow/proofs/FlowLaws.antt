@@ -16,7 +16,7 @@ use Rattle.commands.specs.declared.Fault.{Fault}
 use Rattle.commands.specs.declared.Read.the-variants.{At, Bad}
 use Rattle.commands.specs.Reading.{readAt}
 use Rattle.lines.specs.Texts.{mostOpen}
-use Rattle.lines.specs.Loops.{Enclosed, start, next, after, enclosing, Checked, Skippable}
+use Rattle.lines.specs.Loops.{Enclosed, start, next, openAfter, enclosing, Checked, Skippable}
 use Rattle.lines.proofs.LoopLaws.{lawful, at-most-four, backs, enclosed-by}
 use Rattle.flow.specs.declared.Flow.{Flow}
 use Rattle.flow.specs.Flow.{begun, gone, opened, again, bumped, backed, left, closed, goes, loopBegun, loopEnded, opens}
@@ -57,7 +57,7 @@ begun-ok h = record { checked = h; place = start; starts4 = refl; dones4 = refl;
 
 -- gone on behind a command that opens and closes nothing
 pub gone-ok : {t : List ℕ} {f : Flow} {c : Command} {n : ℕ} → FlowOk t f → readAt t (f .at) ≡ At c n
-    → after c n (opens (f .depth) (f .starts)) ≡ opens (f .depth) (f .starts) → FlowOk t (gone n f)
+    → openAfter c n (opens (f .depth) (f .starts)) ≡ opens (f .depth) (f .starts) → FlowOk t (gone n f)
 gone-ok {t} {f} {c} {n} h e q =
     record { checked = h .checked; place = rw q at (next c n (h .place) e); starts4 = h .starts4; dones4 = h .dones4; length = h .length }
 

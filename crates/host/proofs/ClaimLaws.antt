@@ -9,7 +9,7 @@ use native.Mathlib.Decide.{decLt}
 use lib.ListN.{length, getD, take, length-append, List·getD-append}
 use lib.Dec.{ltb, eqb}
 use borrow.Author.Tests.{lt-ltb, le-ltb, leb-true, leb-false, eqb-true, eqb-false, ne-eqb}
-use Rattle.parts.specs.Parts.{room, put, same, mostBytes}
+use Rattle.parts.specs.Parts.{fitsAt, put, same, mostBytes}
 use Rattle.parts.proofs.Laws.{take-put, drop-put, length-put, put-front}
 use Rattle.parts.specs.Letters.{bytes}
 use Rattle.digits.specs.Decimal.{digitsIn, digitsOf, ascii, decimal}
@@ -22,14 +22,14 @@ use Rattle.commands.proofs.WritingLaws.{letter-written, spelling-some}
 use Rattle.lines.specs.declared.Slot.the-variants.{NoSlot, Into}
 use Rattle.lines.specs.Texts.{structured}
 use Rattle.lines.specs.Bodies.{bodyOf, lineCode}
-use Rattle.lines.specs.Lists.{HostList, slotText, commandsText, runText, writtenOf, allInRange, listFault, listCode, list, listOf}
+use Rattle.lines.specs.Lists.{HostList, slotSpelled, commandsText, runText, writtenOf, allInRange, listFault, listCode, list, listOf}
 use Rattle.lines.proofs.ListLaws.{list-law, list-back}
 use Rattle.lines.proofs.CodeLaws.{codes}
 use Rattle.lines.proofs.FaultLaws.{over-long}
 use Rattle.host.specs.declared.LineWritten.{LineWritten}
 use Rattle.host.specs.declared.LineWritten.the-variants.{Bytes, Refused, NoRoom}
 use Rattle.host.specs.Host.{hostList, codeOf, placeOf, faultOf, fitted, answerOf, codeIn, lineName, leftBy, LineIs}
-use Rattle.host.specs.Claims.{emptyList, k8List, slotList, listed, numbered, twoDigited, Written, LineWrittenIs, LineRefusedIs, LineShortIs}
+use Rattle.host.specs.Claims.{emptyList, k8List, slotList, hostListed, numbered, twoDigited, Written, LineWrittenIs, LineRefusedIs, LineShortIs}
 use Rattle.host.proofs.LineLaws.{code-few, code-long}
 
 -- ---- the three ways
@@ -43,7 +43,7 @@ module _ {l : HostList} {count : ℕ} {buffer after : List ℕ} {answer : LineWr
   unfolding answerOf
   answered P w s r = rw (p .answers, p .leaves) (go (eqb (codeOf l count) 0) refl)
     where
-      fit : (b : Bool) → room buffer 0 (length (writtenOf l)) ≡ b → codeOf l count ≡ 0
+      fit : (b : Bool) → fitsAt buffer 0 (length (writtenOf l)) ≡ b → codeOf l count ≡ 0
           → P (cond b (Bytes (length (writtenOf l))) NoRoom) (leftBy (cond b (Bytes (length (writtenOf l))) NoRoom) l buffer)
       fit true e z = let h = leb-true (0 + length (writtenOf l)) (length buffer) e in w z (omega arith)
       fit false e z = let h = leb-false (0 + length (writtenOf l)) (length buffer) e in s z (omega arith)
@@ -51,7 +51,7 @@ module _ {l : HostList} {count : ℕ} {buffer after : List ℕ} {answer : LineWr
       go : (b : Bool) → eqb (codeOf l count) 0 ≡ b
           → P (cond b (fitted buffer (length (writtenOf l))) (Refused (faultOf l count)))
           (leftBy (cond b (fitted buffer (length (writtenOf l))) (Refused (faultOf l count))) l buffer)
-      go true e = fit (room buffer 0 (length (writtenOf l))) refl (eqb-true (codeOf l count) 0 e)
+      go true e = fit (fitsAt buffer 0 (length (writtenOf l))) refl (eqb-true (codeOf l count) 0 e)
       go false e = r (eqb-false (codeOf l count) 0 e)
 
   pub refused-where : (codeOf l count ≡ 0 → ⊥) → (lineName answer ≡ "the line check's code") × (codeIn answer ≡ codeOf l count)
@@ -150,7 +150,7 @@ pub too-many : (l : HostList) → mostBytes < length (l .listed) → listCode l 
 unfolding writtenOf
 too-many l h =
     let t : List ℕ = commandsText (l .listed) ++ runText (l .run) in
-    code-long l (omega (arith, commands-bytes (l .listed), length-append (slotText (l .slot)) t, length-append (commandsText (l .listed)) (runText (l .run))))
+    code-long l (omega (arith, commands-bytes (l .listed), length-append (slotSpelled (l .slot)) t, length-append (commandsText (l .listed)) (runText (l .run))))
 
 -- ---- the empty list
 
@@ -176,16 +176,16 @@ empty-answer commands {buffer} p = answered p (λ a x. (a ≡ Bytes 0) × (x ≡
 
 -- ---- how a list is written
 
-slot-first : (n : ℕ) (cs : List Command) (run : Bool) → writtenOf (listed (Into n) cs run) ≡ 115 ∷ (decimal n ++ writtenOf (listed NoSlot cs run))
+slot-first : (n : ℕ) (cs : List Command) (run : Bool) → writtenOf (hostListed (Into n) cs run) ≡ 115 ∷ (decimal n ++ writtenOf (hostListed NoSlot cs run))
 unfolding writtenOf
 slot-first n cs run = refl
 
-command-first : (c : Command) (cs : List Command) (run : Bool) → writtenOf (listed NoSlot (c ∷ cs) run) ≡ spelled c ++ writtenOf (listed NoSlot cs run)
+command-first : (c : Command) (cs : List Command) (run : Bool) → writtenOf (hostListed NoSlot (c ∷ cs) run) ≡ spelled c ++ writtenOf (hostListed NoSlot cs run)
 unfolding writtenOf commandsText
 command-first c cs run = append-assoc (spelled c) (commandsText cs) (runText run)
 
-run-last : (run : Bool) → writtenOf (listed NoSlot [] run) ≡ cond run (bytes "R") []
-unfolding writtenOf commandsText bytes
+run-last : (run : Bool) → writtenOf (hostListed NoSlot [] run) ≡ cond run (bytes "R") []
+unfolding writtenOf commandsText
 run-last true = refl
 run-last false = refl
 
@@ -204,11 +204,11 @@ one-letter P (x ∷ xs) l h e = go (eqb l x) refl e (one-letter P xs l (h .1))
     go false f g rest = rest g
 
 begins-alone : (n : ℕ) → spelled (commandOf 103 n) ≡ bytes "g"
-unfolding spelled commandOf table find bytes
+unfolding spelled commandOf table find
 begins-alone n = refl
 
 with-number : (l n : ℕ) → oneOf numbered l ≡ true → spelled (commandOf l n) ≡ l ∷ decimal n
-unfolding spelled commandOf table find bytes
+unfolding spelled commandOf table find
 with-number l n e =
     one-letter (λ (m : ℕ). spelled (commandOf m n) ≡ m ∷ decimal n) numbered l
     (refl, (refl, (refl, (refl, (refl, (refl, (refl, (refl, (refl, (refl, (refl, (refl, (refl, (refl, (refl, (refl, (refl, (refl, tt)))))))))))))))))) e
@@ -227,7 +227,7 @@ two-so n h = go (decLt n 10)
         rw (le-ltb n 10 g, decimal-more n g, decimal-last (n / 10) (omega arith))
 
 with-two-digits : (l n : ℕ) → oneOf twoDigited l ≡ true → n < 100 → spelled (commandOf l n) ≡ l ∷ (48 + n / 10) ∷ (48 + n % 10) ∷ []
-unfolding spelled commandOf table find bytes
+unfolding spelled commandOf table find
 with-two-digits l n e h =
     let two : (m : ℕ) → m ∷ twoDigits n ≡ m ∷ (48 + n / 10) ∷ (48 + n % 10) ∷ [] = λ m. ap (λ (t : List ℕ). m ∷ t) (two-so n h) in
     one-letter (λ (m : ℕ). spelled (commandOf m n) ≡ m ∷ (48 + n / 10) ∷ (48 + n % 10) ∷ []) twoDigited l (two 72, (two 83, tt)) e

@@ -5,7 +5,7 @@ use mathlib.Core.List.{List, [], _∷_, _++_}
 use mathlib.Core.Bool.{Bool, true, false, cond}
 use mathlib.Core.Path.{_≡_}
 use lib.ListN.{length, getD, take, drop}
-use Rattle.parts.specs.Letters.{bytes}
+use Rattle.parts.specs.Letters.{byte, bytes}
 use Rattle.digits.specs.Decimal.{decimal}
 use Rattle.commands.specs.declared.Command.{Command}
 use Rattle.commands.specs.declared.Fault.{Fault}
@@ -25,8 +25,8 @@ use Rattle.host.specs.Host.{hostList, codeOf, placeOf, faultOf, codeIn, 
 abbrev pub emptyList : HostList
 emptyList = record { slot = NoSlot; listed = []; run = false }
 
-abbrev pub listed : Slot → List Command → Bool → HostList
-listed s cs run = record { slot = s; listed = cs; run = run }
+abbrev pub hostListed : Slot → List Command → Bool → HostList
+hostListed s cs run = record { slot = s; listed = cs; run = run }
 
 -- the letters with a number, "`G` always with its number"; those "as two digits"
 abbrev pub numbered : List ℕ
@@ -37,14 +37,14 @@ twoDigited = bytes "HS"
 
 -- how a list is written: a slot, its commands one after another, and `R`; each command by its letter
 pub record Written : Type 0 where
-  pub slot : (n : ℕ) (cs : List Command) (run : Bool) → writtenOf (listed (Into n) cs run) ≡ 115 ∷ (decimal n ++ writtenOf (listed NoSlot cs run))
-  pub more : (c : Command) (cs : List Command) (run : Bool) → writtenOf (listed NoSlot (c ∷ cs) run) ≡ spelled c ++ writtenOf (listed NoSlot cs run)
-  pub end : (run : Bool) → writtenOf (listed NoSlot [] run) ≡ cond run (bytes "R") []
-  pub loop-begin : (n : ℕ) → spelled (commandOf 103 n) ≡ bytes "g"
+  pub slot : (n : ℕ) (cs : List Command) (run : Bool) → writtenOf (hostListed (Into n) cs run) ≡ byte "s" ∷ (decimal n ++ writtenOf (hostListed NoSlot cs run))
+  pub more : (c : Command) (cs : List Command) (run : Bool) → writtenOf (hostListed NoSlot (c ∷ cs) run) ≡ spelled c ++ writtenOf (hostListed NoSlot cs run)
+  pub end : (run : Bool) → writtenOf (hostListed NoSlot [] run) ≡ cond run (bytes "R") []
+  pub loop-begin : (n : ℕ) → spelled (commandOf (byte "g") n) ≡ bytes "g"
   pub number : (l n : ℕ) → oneOf numbered l ≡ true → spelled (commandOf l n) ≡ l ∷ decimal n
-  pub two-digits : (l n : ℕ) → oneOf twoDigited l ≡ true → n < 100 → spelled (commandOf l n) ≡ l ∷ (48 + n / 10) ∷ (48 + n % 10) ∷ []
+  pub two-digits : (l n : ℕ) → oneOf twoDigited l ≡ true → n < 100 → spelled (commandOf l n) ≡ l ∷ (byte "0" + n / 10) ∷ (byte "0" + n % 10) ∷ []
   -- "without leading zeros": only 0 begins with the digit 0
-  pub no-leading-zero : (n : ℕ) → 1 ≤ n → getD (decimal n) 0 0 ≡ 48 → ⊥
+  pub no-leading-zero : (n : ℕ) → 1 ≤ n → getD (decimal n) 0 0 ≡ byte "0" → ⊥
 
 -- the list of K8's second line: `/1gA0S03e0G0R`
 abbrev pub k8List : HostList

@@ -44,11 +44,11 @@ storedOf image slot text =
     Stored.WrongLength
 
 -- what each answer leaves: "`s` rewrites one entry and one body", a refusal nothing
-abbrev pub leftBy : Stored → List ℕ → ℕ → List ℕ → List ℕ
-leftBy Stored.Done image slot text = withText image slot text
-leftBy Stored.WrongLength image slot text = image
-leftBy Stored.NoSlot image slot text = image
-leftBy Stored.TooLong image slot text = image
+abbrev pub storeLeaves : Stored → List ℕ → ℕ → List ℕ → List ℕ
+storeLeaves Stored.Done image slot text = withText image slot text
+storeLeaves Stored.WrongLength image slot text = image
+storeLeaves Stored.NoSlot image slot text = image
+storeLeaves Stored.TooLong image slot text = image
 
 -- and its name
 abbrev pub storedName : Stored → String
@@ -58,7 +58,7 @@ storedName Stored.NoSlot = "slot not 0 to 15"
 storedName Stored.TooLong = "text over 256 bytes"
 
 unfoldable pub afterStore : List ℕ → ℕ → List ℕ → List ℕ
-afterStore image slot text = leftBy (storedOf image slot text) image slot text
+afterStore image slot text = storeLeaves (storedOf image slot text) image slot text
 
 -- the answer and the image after a store
 pub record StoredIs (image : List ℕ) (slot : ℕ) (text : List ℕ) (answer : Stored) (after : List ℕ) : Type 0 where

@@ -25,11 +25,11 @@ pub record Kept (P : List ℕ → Core → Type 0) : Type 0 where
       → Steps steps (take (c .flow .length) text) image (withMotor (reported sample steps (c .motor)) c) s
       → P (textAfter (s .enter) text image) (settled s .core)
 
-abbrev pub Holds : (List ℕ → Core → Type 0) → Drive → Type 0
-Holds P u = P (u .text) (u .core)
+abbrev pub HoldsOf : (List ℕ → Core → Type 0) → Drive → Type 0
+HoldsOf P u = P (u .text) (u .core)
 
 -- the calls keep it
 pub record CallsKeep (P : List ℕ → Core → Type 0) : Type 0 where
-  pub starts : (number : ℕ) (image body : List ℕ) → Holds P (freshUnit number image body)
-  pub feeds : (u : Drive) (bytes image buffer : List ℕ) → Holds P u → Holds P (feedOf u bytes image buffer .unit)
-  pub turns : (u : Drive) (sample ms steps : ℕ) (image : List ℕ) → Holds P u → Holds P (turnOf u sample ms steps image .unit)
+  pub starts : (number : ℕ) (image body : List ℕ) → HoldsOf P (freshUnit number image body)
+  pub feeds : (u : Drive) (bytes image buffer : List ℕ) → HoldsOf P u → HoldsOf P (feedOf u bytes image buffer .unit)
+  pub turns : (u : Drive) (sample ms steps : ℕ) (image : List ℕ) → HoldsOf P u → HoldsOf P (turnOf u sample ms steps image .unit)

@@ -28,7 +28,7 @@ use Rattle.lines.specs.declared.Body.{Body}
 use Rattle.lines.specs.declared.Taken.{Taken}
 use Rattle.lines.specs.declared.Judged.{Judged}
 use Rattle.lines.specs.declared.Judged.the-variants.{Passes, Refused}
-use Rattle.lines.specs.Texts.{Reading, commands, faulty, Placed, placed, unplaced, before, goesOn, readingFrom, structured, storable, faultPlaces, storedPlaces, refusedAt, leftmost, judged, lineJudged, storedBy, storedJudged}
+use Rattle.lines.specs.Texts.{Reading, commands, faulty, Placed, placed, unplaced, before, goesOn, readingFrom, structured, storable, faultPlaces, storedPlaces, judgedPlaces, leftmost, judged, lineJudged, storedBy, storedJudged}
 use Rattle.lines.specs.Bodies.{bodyOf, endsWithR, taken, behind, mostSlot, storeOf, storedAt, takenOf, lineOf, lineCode}
 use Rattle.lines.specs.Lists.{HostList, runText, allInRange, slotInRange, listFault, SpellsCommands, none, more, SpellsSlot, without, into, Spells, spells}
 use Rattle.lines.specs.Claims.{cutAt, ReadsBefore, Because, by-structure, by-command, by-slot}
@@ -141,7 +141,7 @@ data Why (places : List Placed → List ℕ) (r : Reading) (f : Fault) : Type 0 
 why : (places : List Placed → List ℕ) (r : Reading) (f : Fault) → judged places r ≡ Refused f → Why places r f
 why places (commands cs) f e = go (places cs) refl e
   where
-    go : (ps : List ℕ) → places cs ≡ ps → refusedAt ps ≡ Refused f → Why places (commands cs) f
+    go : (ps : List ℕ) → places cs ≡ ps → judgedPlaces ps ≡ Refused f → Why places (commands cs) f
     go [] q k = no (cc)
     go (p ∷ ps) q k =
         let w : fault 2 (leftmost (p ∷ ps)) ≡ f = cc in

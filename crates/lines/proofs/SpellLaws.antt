@@ -26,7 +26,7 @@ use Rattle.lines.specs.declared.Slot.the-variants.{NoSlot, Into}
 use Rattle.lines.specs.declared.Body.{Body}
 use Rattle.lines.specs.declared.Taken.{Taken}
 use Rattle.lines.specs.Texts.{commands, Placed, placed, unplaced, goesOn, readingFrom, structured}
-use Rattle.lines.specs.Bodies.{Row, bodyOf, beginsImmediate, immediates, immediateIn, otherOf, endsWithR, lineOf, takenCode}
+use Rattle.lines.specs.Bodies.{ImmediateRow, bodyOf, beginsImmediate, immediates, immediateIn, otherOf, endsWithR, lineOf, takenCode}
 use Rattle.lines.specs.Lists.{HostList, runText, allInRange, listFault, SpellsCommands, none, more, without, into, Spells, spells, list, listOf, takenList, bodyList}
 use Rattle.lines.specs.Claims.{Spelled, SpelledAs}
 use Rattle.lines.proofs.TextLaws.{reading-law}
@@ -156,7 +156,7 @@ Alone b Body.Run = b ≡ 82 ∷ []
 Alone b Body.Again = Unit
 Alone b Body.Line = Unit
 
-immediate-alone : (b : List ℕ) (rs : List Row) → Alone b (immediateIn rs b)
+immediate-alone : (b : List ℕ) (rs : List ImmediateRow) → Alone b (immediateIn rs b)
 unfolding immediateIn
 immediate-alone b [] = tt
 immediate-alone b (r ∷ rs) = cases (Alone b) (same b (r .bytes)) (λ e. tt) (λ e. immediate-alone b rs)

@@ -21,7 +21,7 @@ use Rattle.lines.specs.Texts.{Placed, unplaced, goesOn, readingFrom, mos
 use Rattle.lines.specs.Bodies.{bodyOf, textEnd, lineOf, mostSlot, takenCode, lineFault, lineCode}
 use Rattle.lines.specs.Lists.{HostList, runText, writtenOf, allInRange, slotInRange, shaped, listFault, listCode, list, listOf, Spells}
 use Rattle.lines.specs.Loops.{Enclosed, enclosing, Checked, Lawful}
-use Rattle.lines.specs.Examples.{examples, each, olders, checked-each, operands, judged}
+use Rattle.lines.specs.Examples.{examples, each, olders, eachOlder, operands, eachOperand}
 
 -- a body of at most 256 bytes spells a list with nothing wrong in it
 pub record SpelledAs (l : HostList) (b : List ℕ) : Type 0 where
@@ -132,6 +132,6 @@ pub record LineClaims : Type 0 where
   -- K5 to K8, K11 and the edges around them
   pub edges : each examples ≡ true
   -- 02, E9: stored texts at the edges of ten digits
-  pub older-edges : checked-each olders ≡ true
+  pub older-edges : eachOlder olders ≡ true
   -- the table of commands: the last good and the first bad operand of every row
-  pub ranges : judged operands ≡ true
+  pub ranges : eachOperand operands ≡ true

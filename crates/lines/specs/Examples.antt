@@ -135,9 +135,9 @@ abbrev pub alike : Bool → Bool → Bool
 alike true b = b
 alike false b = not b
 
-unfoldable pub checked-each : List Older → Bool
-checked-each [] = true
-checked-each (o ∷ os) = alike (textGood (o .text)) (o .now) && alike (olderGood (o .text)) (o .earlier) && checked-each os
+unfoldable pub eachOlder : List Older → Bool
+eachOlder [] = true
+eachOlder (o ∷ os) = alike (textGood (o .text)) (o .now) && alike (olderGood (o .text)) (o .earlier) && eachOlder os
 
 -- ---- the table of commands, at its edges
 
@@ -179,14 +179,14 @@ operands =
     ∷ []
 
 -- each operand, where it stands, gives this code
-unfoldable pub code-each : ℕ → Text.String → Text.String → List Text.String → Bool
-code-each c l r [] = true
-code-each c l r (x ∷ xs) = eqb (lineCode (bytes l ++ (bytes x ++ bytes r))) c && code-each c l r xs
+unfoldable pub eachCode : ℕ → Text.String → Text.String → List Text.String → Bool
+eachCode c l r [] = true
+eachCode c l r (x ∷ xs) = eqb (lineCode (bytes l ++ (bytes x ++ bytes r))) c && eachCode c l r xs
 
 -- "operand missing or out of range (3)"
-unfoldable pub judged : List Operands → Bool
-judged [] = true
-judged (o ∷ os) = code-each 0 (o .before) (o .behind) (o .good) && code-each outOfRange (o .before) (o .behind) (o .bad) && judged os
+unfoldable pub eachOperand : List Operands → Bool
+eachOperand [] = true
+eachOperand (o ∷ os) = eachCode 0 (o .before) (o .behind) (o .good) && eachCode outOfRange (o .before) (o .behind) (o .bad) && eachOperand os
 
 -- each body gets its code and its place
 unfoldable pub each : List Example → Bool

@@ -33,7 +33,7 @@ use Rattle.obeying.specs.declared.Obeyed.{Obeyed}
 use Rattle.obeying.specs.Obeying as obeying
 use Rattle.obeying.specs.Obeying.{busy, placeTold, silent, immediateObeyed, lineObeyed, speedOrBusy, kindObeyed, bodyObeyed}
 use Rattle.obeying.specs.Speed.{speedLine, numberIn, speedIn}
-use Rattle.obeying.specs.Deeds.{nothingTold, textTold, positionTold, speedTold, sampleTold, endlessTold, stepSizeTold, correctionTold, Obeys, refuses, tells, stores, clears}
+use Rattle.obeying.specs.Deeds.{nothing-told, text-told, position-told, speed-told, sample-told, endless-told, step-size-told, correction-told, Obeys, refuses, tells, stores, clears}
 use Rattle.obeying.specs.Deeds.{stops, resumes, Speeds, speeds, again, loads}
 use Rattle.obeying.proofs.SpeedLaws.{fits, speedCode, speed-body, spelled-whole, speed-code}
 
@@ -68,18 +68,18 @@ module _ (body : List ℕ) (c : Core) where
   refusal = refuses (fault busy 0) (omega arith) (omega arith)
 
   quiet : Deed (silent c)
-  quiet = tells Tell.Nothing nothingTold
+  quiet = tells Tell.Nothing nothing-told
 
   immediate-does : (i : Immediate) → bodyOf body ≡ Body.Immediate i → Deed (immediateObeyed i c)
   immediate-does Terminate e = cases (λ (d : Core). Deed (silent d)) (c .running) (λ r. stops e r) (λ r. quiet)
   immediate-does Status e = quiet
-  immediate-does CurrentText e = tells Tell.Text textTold
-  immediate-does Position e = tells _ positionTold
-  immediate-does Speed e = tells _ speedTold
-  immediate-does Sample e = tells _ sampleTold
-  immediate-does EndlessSpeed e = tells _ endlessTold
-  immediate-does StepSize e = tells _ stepSizeTold
-  immediate-does Correction e = tells _ correctionTold
+  immediate-does CurrentText e = tells Tell.Text text-told
+  immediate-does Position e = tells _ position-told
+  immediate-does Speed e = tells _ speed-told
+  immediate-does Sample e = tells _ sample-told
+  immediate-does EndlessSpeed e = tells _ endless-told
+  immediate-does StepSize e = tells _ step-size-told
+  immediate-does Correction e = tells _ correction-told
   immediate-does Clear e = clears
 
   -- "its commands, one or more, become the current text"

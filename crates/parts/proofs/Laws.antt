@@ -11,7 +11,7 @@ use lib.Seq.{set-split, drop-append-le, take-append-le, drop-drop, take-at, drop
 use lib.Dec.{eqb}
 use borrow.Author.Tests.{le-leb, lt-leb, leb-true, eq-eqb, eqb-true}
 use borrow.Rule.Slice.PartMut.{putMid}
-use Rattle.parts.specs.Parts.{part, put, room, putIn, padded, same, PutIs}
+use Rattle.parts.specs.Parts.{part, put, fitsAt, putIn, padded, same, PutIs}
 
 -- a choice by a test has what both its sides have
 pub cases : {A : Type 0} (P : A → Type 0) (b : Bool) {x y : A} → (b ≡ true → P x) → (b ≡ false → P y) → P (cond b x y)
@@ -120,7 +120,7 @@ put-in-full xs a ys h = rw (lt-leb (a + length ys) (length xs) h)
 pub length-put-in : (xs : List ℕ) (a : ℕ) (ys : List ℕ) → length (putIn xs a ys) ≡ length xs
 unfolding putIn
 length-put-in xs a ys =
-    cases (λ (l : List ℕ). length l ≡ length xs) (room xs a (length ys)) (λ e. length-put xs a ys (leb-true _ _ e)) (λ e. refl)
+    cases (λ (l : List ℕ). length l ≡ length xs) (fitsAt xs a (length ys)) (λ e. length-put xs a ys (leb-true _ _ e)) (λ e. refl)
 
 -- the promise of a writer: met with room and without
 pub is-put : (dst : List ℕ) (at : ℕ) (src : List ℕ) {after : List ℕ} → at + length src ≤ length dst → after ≡ put dst at src → PutIs dst at src true after

@@ -67,7 +67,7 @@ When RefusedL v l endless n = Within 1 topV v × Outside 1 topL l
 When RefusedN v l endless n = Within 1 topV v × Within 1 topL l × (endless ≡ false) × Outside 1 topN n
 
 -- each verdict exactly when, and each but "taken" is a refusal
-pub record Outcome (v l : ℕ) (endless : Bool) (n : ℕ) (f : Figures) : Type 0 where
+pub record Verdicts (v l : ℕ) (endless : Bool) (n : ℕ) (f : Figures) : Type 0 where
   pub exactly-when : (verdict : Verdict) → (f .verdict ≡ verdict) ↔ When verdict v l endless n
   pub refused : (f .verdict ≡ Taken → ⊥) → Refused f
 
@@ -87,4 +87,4 @@ pub record RampClaims : Type 0 where
   -- 'Testing a computed time with "greater than": a not-a-number slips by': by every limit, were L 0 not refused
   pub slips-by : (v n : ℕ) (limit : Float) → lt limit (timeOf (peakOf v 0 false n) 0) ≡ false
   -- each verdict exactly when 01 says
-  pub outcome : (v l : ℕ) (endless : Bool) (n : ℕ) → Outcome v l endless n (figuresOf v l endless n)
+  pub outcome : (v l : ℕ) (endless : Bool) (n : ℕ) → Verdicts v l endless n (figuresOf v l endless n)

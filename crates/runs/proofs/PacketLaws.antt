@@ -22,12 +22,12 @@ use Rattle.obeying.specs.declared.Obeyed.{Obeyed}
 use Rattle.obeying.specs.declared.Tell.{Tell}
 use Rattle.obeying.specs.Obeying.{stepSize, dataOf, placeTold, loadedAs, textWritten}
 use Rattle.drive.specs.Calls.{answerTo, receivedBy, bodyBy, obeyedBy, textThen, feedOf}
-use Rattle.runs.specs.Packets.{Answers, answeredBy, toldBy, ReadIn, ReadBack}
+use Rattle.runs.specs.Packets.{IsAnswered, answeredBy, toldBy, ReadIn, ReadBack}
 use Rattle.runs.proofs.SoundLaws.{Sound, SoundUnit}
 use Rattle.runs.proofs.CallLaws.{feed-done}
 use Rattle.runs.proofs.PrintLaws.{checked-printable}
 use Rattle.motor.specs.Deeds.{codeValues}
-use Rattle.obeying.specs.Deeds.{Tells, nothingTold, textTold, positionTold, speedTold, sampleTold, endlessTold, stepSizeTold, correctionTold, Obeys, refuses, tells, stores, clears, stops, resumes, speeds, again, loads}
+use Rattle.obeying.specs.Deeds.{Tells, nothing-told, text-told, position-told, speed-told, sample-told, endless-told, step-size-told, correction-told, Obeys, refuses, tells, stores, clears, stops, resumes, speeds, again, loads}
 use Rattle.obeying.proofs.SizeLaws.{step-size-fits}
 use Rattle.drive.proofs.AnswerLaws.{packet-fits}
 use Rattle.drive.proofs.FeedLaws.{frame-does}
@@ -56,14 +56,14 @@ module _ (c : Core) (text : List ℕ) (s : Sound (take (c .flow .length) text) c
   current-good = text-good _ (omega (arith, length-take (c .flow .length) text, h .1)) (checked-printable _ (s .flow .checked))
 
   tells-good : {t : Tell} → Tells c t → goodData (dataOf t (c .flow .length) text) ≡ true
-  tells-good nothingTold = nothing-good
-  tells-good textTold = current-good
-  tells-good positionTold = number-good (c .motor .position) (omega (arith, s .motor .inRange))
-  tells-good speedTold = number-good (c .settings .speed) (h .0 .settings .speed)
-  tells-good sampleTold = number-good (c .motor .sample) (omega (arith, h .0 .sample))
-  tells-good endlessTold = number-good (c .endless) (h .0 .endless)
-  tells-good stepSizeTold = number-good (stepSize (c .settings .exponent)) (step-size-fits (c .settings .exponent))
-  tells-good correctionTold = number-good (c .settings .correction) (h .0 .settings .correction)
+  tells-good nothing-told = nothing-good
+  tells-good text-told = current-good
+  tells-good position-told = number-good (c .motor .position) (omega (arith, s .motor .inRange))
+  tells-good speed-told = number-good (c .settings .speed) (h .0 .settings .speed)
+  tells-good sample-told = number-good (c .motor .sample) (omega (arith, h .0 .sample))
+  tells-good endless-told = number-good (c .endless) (h .0 .endless)
+  tells-good step-size-told = number-good (stepSize (c .settings .exponent)) (step-size-fits (c .settings .exponent))
+  tells-good correction-told = number-good (c .settings .correction) (h .0 .settings .correction)
 
   -- the place of a fault
   place-good : (p : ℕ) → p ≤ mostBytes + 1 → goodData (dataOf (placeTold p) (c .flow .length) text) ≡ true
@@ -105,7 +105,7 @@ unfolding answerTo
 answer-reads Framing.Plain o text t = reads-back plain (not (o .core .running)) (o .code) (dataOf (o .tell) (o .core .flow .length) text) (t .0)
 answer-reads (Framing.Oem q) o text t = reads-back oem (not (o .core .running)) (o .code) (dataOf (o .tell) (o .core .flow .length) text) (t .0)
 
-module _ (u : Drive) (bytes image buffer : List ℕ) (a : Answers u bytes image buffer) where
+module _ (u : Drive) (bytes image buffer : List ℕ) (a : IsAnswered u bytes image buffer) where
   abbrev left : List ℕ
   left = textThen (bodyBy u bytes) (obeyedBy u bytes) (u .text)
 

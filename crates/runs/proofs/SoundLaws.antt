@@ -26,7 +26,7 @@ use Rattle.obeying.specs.declared.Obeyed.{Obeyed}
 use Rattle.obeying.specs.Obeying.{loadedAs, textWritten}
 use Rattle.drive.specs.Unit.{Drive}
 use Rattle.motor.specs.Deeds.{same}
-use Rattle.keeping.specs.Deeds.{Leads, here, on, over, opens-loop, ends-loop, Does, goes, ends, Steps, keeps-text, enters-text}
+use Rattle.keeping.specs.Deeds.{FlowLeads, here, on, over, opens-loop, ends-loop, Does, goes, ends, Steps, keeps-text, enters-text}
 use Rattle.obeying.specs.Deeds.{Obeys, refuses, tells, stores, clears, stops, resumes, speeds, again, loads}
 use Rattle.keeping.specs.Kept.{Kept}
 
@@ -95,7 +95,7 @@ record Amid (t : List ℕ) (c : Core) : Type 0 where
   pub motor : Within (c .motor)
   pub code-0 : c .running ≡ true → c .code ≡ 0
 
-leads-ok : {t : List ℕ} {f g : Flow} → FlowOk t f → Leads t f g → FlowOk t g
+leads-ok : {t : List ℕ} {f g : Flow} → FlowOk t f → FlowLeads t f g → FlowOk t g
 leads-ok h here = h
 leads-ok h (on e q) = gone-ok h e q
 leads-ok h (over e q) = skipped-ok h e q

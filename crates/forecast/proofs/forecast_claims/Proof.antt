@@ -8,13 +8,13 @@ use Rattle.lines.specs.Texts.{unplaced, readingIn, readingBy, faultPlaces, fift
 use Rattle.lines.specs.Bodies.{immediates, immediateIn, bodyOf, endsWithR, textEnd, takenOf, lineOf, lineFault}
 use Rattle.courses.specs.Meaning.{tailOf, courseOf, cost, courseIn, commandsIn}
 use Rattle.forecast.specs.Count.{anyBarred, countText, bodyText, countOf}
-use Rattle.forecast.specs.Examples.{examples, counts, given}
+use Rattle.forecast.specs.Examples.{countExamples, counts, given}
 use Rattle.forecast.proofs.ToldLaws.{told}
 use Rattle.forecast.proofs.forecast_claims.Statement.{statement}
 use Rattle.forecast.proofs.forecast_claims.Tie as tie
 
-edges : counts examples ≡ given examples
-unfolding examples counts given countOf countText bodyText anyBarred tailOf courseOf cost courseIn commandsIn part lineFault bodyOf same immediates immediateIn endsWithR textEnd takenOf lineOf unplaced readingIn readingBy faultPlaces fifteenth storedPlaces leftmost lineJudged storedBy readBy table find asksOf commandOf oneOf powerIn exponentOf within operandAt operandUpTo operandOf digitRun valueAfter
+edges : counts countExamples ≡ given countExamples
+unfolding countExamples counts given countOf countText bodyText anyBarred tailOf courseOf cost courseIn commandsIn part lineFault bodyOf same immediates immediateIn endsWithR textEnd takenOf lineOf unplaced readingIn readingBy faultPlaces fifteenth storedPlaces leftmost lineJudged storedBy readBy table find asksOf commandOf oneOf powerIn exponentOf within operandAt operandUpTo operandOf digitRun valueAfter
 edges = refl
 
 pub forecast-claims-spec : {M : Type 1} → statement M

@@ -7,7 +7,7 @@ use mathlib.Core.Path.{_≡_, refl, sym, ap, _∙_}
 use mathlib.Core.List.{List}
 use lib.ListN.{length, drop}
 use Rattle.frames.specs.declared.Place.{Place}
-use Rattle.frames.specs.Receive.{receiverAt, past, receiveOf, stepOf}
+use Rattle.frames.specs.Receive.{receiverAt, past, receiveOf, byteReceived}
 use Rattle.frames.proofs.Steps.{begins-plain, begins-oem, skipped}
 use Rattle.frames.proofs.Stream.{turned}
 use Rattle.frames.proofs.look_out.Statement.{statement}
@@ -30,7 +30,7 @@ returns c u body =
     simp (c .at .ensures) (
       omega (arith, k .inv .0),
       omega arith,
-      turned _ _ u _ (omega arith) (k .inv .2 u body) (sym (ap (stepOf _ u) (c .before .if1 .taken) ∙ begins-plain _ u refl)) refl,
+      turned _ _ u _ (omega arith) (k .inv .2 u body) (sym (ap (byteReceived _ u) (c .before .if1 .taken) ∙ begins-plain _ u refl)) refl,
     )
 
 returns-2 : tie.Need-returns-2 Inv-loop μ-loop
@@ -39,7 +39,7 @@ returns-2 c u body =
     simp (c .at2 .ensures) (
       omega (arith, k .inv .0),
       omega arith,
-      turned _ _ u _ (omega arith) (k .inv .2 u body) (sym (ap (stepOf _ u) (c .before .if2 .taken) ∙ begins-oem _ u refl)) refl,
+      turned _ _ u _ (omega arith) (k .inv .2 u body) (sym (ap (byteReceived _ u) (c .before .if2 .taken) ∙ begins-oem _ u refl)) refl,
     )
 
 loop-again : tie.Need-loop-again Inv-loop μ-loop

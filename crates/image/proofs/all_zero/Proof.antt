@@ -6,13 +6,13 @@ use mathlib.Core.Bool.{_&&_}
 use native.Mathlib.Omega.{arith}
 use lib.ListN.{drop}
 use borrow.Author.Needs.{needs}
-use Rattle.image.specs.Image.{zeros}
+use Rattle.image.specs.Image.{allZeros}
 use Rattle.image.proofs.SlotLaws.{zeros-more, zeros-end}
 use Rattle.image.proofs.all_zero.Statement.{statement}
 use Rattle.image.proofs.all_zero.Tie as tie
 
 abbrev Inv-loop : tie.InvT-loop
-Inv-loop bytes clean₀ i₀ i-end clean i = (i ≤ i-end) × (zeros bytes ≡ clean && zeros (drop i bytes))
+Inv-loop bytes clean₀ i₀ i-end clean i = (i ≤ i-end) × (allZeros bytes ≡ clean && allZeros (drop i bytes))
 
 abbrev μ-loop : tie.MeasureT-loop
 μ-loop bytes clean₀ i₀ i-end clean i = i-end - i

@@ -7,7 +7,7 @@ use native.Mathlib.Omega.{arith}
 use lib.ListN.{length, take, drop, length-drop}
 use lib.Seq.{take-all}
 use Rattle.lines.specs.Texts.{textGoodBy}
-use Rattle.image.specs.Image.{zeros, goodAt}
+use Rattle.image.specs.Image.{allZeros, goodAt}
 use Rattle.image.proofs.SlotLaws.{bad-start, bad-length, good-rest}
 use borrow.Author.Needs.{needs}
 use Rattle.image.proofs.good_at.Statement.{statement}
@@ -28,7 +28,7 @@ returns-2 c =
 
 -- the text is as long as the entry says
 rest : (c : tie.Else2) → let v = c .before in let a = v .before .before .before .before .before .args in
-    goodAt (a .most) (a .start) (a .entry .now) (a .body .now) ≡ textGoodBy (a .most) (take (v .word-at2 .result) (a .body .now)) && zeros (drop (v .word-at2 .result) (a .body .now))
+    goodAt (a .most) (a .start) (a .entry .now) (a .body .now) ≡ textGoodBy (a .most) (take (v .word-at2 .result) (a .body .now)) && allZeros (drop (v .word-at2 .result) (a .body .now))
 rest c =
     let v = c .before in
     let w = v .before .before in

@@ -4,13 +4,13 @@ use lib.Ieee.{ofBits}
 use mir.Facts.{fits-le, fits-lit}
 use borrow.Author.Needs.{needs}
 use native.Mathlib.Omega.{arith}
-use Rattle.ramp.specs.Ramp.{takenOf, speedOf, accelerationOf, timeOf, distanceOf}
+use Rattle.ramp.specs.Ramp.{peakFigures, speedOf, accelerationOf, timeOf, distanceOf}
 use Rattle.ramp.proofs.Peak.{square-le}
 use Rattle.ramp.proofs.taken.Statement.{statement}
 use Rattle.ramp.proofs.taken.Tie as tie
 
 returns : tie.Need-returns
-unfolding ofBits takenOf speedOf accelerationOf timeOf distanceOf
+unfolding ofBits peakFigures speedOf accelerationOf timeOf distanceOf
 returns c = refl
 
 pub taken-spec : {M : Type 1} → statement M
