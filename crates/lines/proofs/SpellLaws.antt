@@ -9,7 +9,7 @@ use lib.ListN.{length, getD, drop, take-append-drop, drop-of-length-le}
 use lib.Seq.{drop-drop}
 use lib.Dec.{ltb}
 use borrow.Author.Tests.{ltb-false, eqb-true}
-use Rattle.parts.specs.Parts.{part, same}
+use Rattle.parts.specs.Parts.{part, same, mostBytes}
 use Rattle.parts.proofs.Laws.{cases, same-is}
 use Rattle.digits.specs.declared.Operand.the-variants.{Number}
 use Rattle.digits.specs.Operand.{operandMost, operandUpTo}

@@ -8,7 +8,7 @@ use lib.Dec.{leb}
 use lib.ListN.{length, take, drop, length-take}
 use lib.Seq.{take-append-seam}
 use borrow.Author.Tests.{leb-true, le-leb, le-ltb}
-use Rattle.parts.specs.Parts.{putIn}
+use Rattle.parts.specs.Parts.{putIn, mostBytes}
 use Rattle.parts.proofs.Laws.{cases, put-in-room, put-front}
 use Rattle.answers.specs.Packet.{statusOf, mostData, packetBytes}
 use Rattle.answers.specs.Reading.{allPrintable, goodData}
