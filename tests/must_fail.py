@@ -69,7 +69,7 @@ def refusals(log, crate):
             of_function = file.endswith("/Proof.antt")
             name = file.removesuffix("/Proof.antt").replace("/", "::") if of_function else f"{file.removesuffix('.antt')}.{law}"
             found.setdefault(name, reason)
-    # a proof that the prover itself looks for, and does not find
-    for function, reason in re.findall(rf"^fn {crate}::(\S+): no proof: (.*)", log, re.M):
+    # a proof that the prover itself looks for, and does not find; not where something that is called is not proved
+    for function, reason in re.findall(rf"^fn {crate}::(\S+): no proof: (.* does not close .*)", log, re.M):
         found.setdefault(function, reason)
     return found
