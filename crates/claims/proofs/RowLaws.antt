@@ -150,6 +150,10 @@ module _ (u : Drive) (bytes image buffer : List ℕ) where
         let same = refused-last g (frameCode u bytes) (u .last) (refusal (frameCode u bytes) (h .codes) n) in
         rw (le-ltb (length buffer) 262 l, eq-eqb (length image) 4160 w, f, h .refused n, told-place _ _ _, front g _ _ buffer (h .three-digits) l, same)
 
+    group-silent : receivedBy u bytes .frame ≡ Frame.Group → (feedOf u bytes image buffer .answered ≡ 0) × (feedOf u bytes image buffer .buffer ≡ buffer)
+    unfolding feedOf
+    group-silent f = rw (le-ltb (length buffer) 262 l, eq-eqb (length image) 4160 w, f) (refl, put-nothing buffer)
+
     group-refused : receivedBy u bytes .frame ≡ Frame.Group → (frameCode u bytes ≡ 0 → ⊥) → FrameRefused u bytes image buffer []
     unfolding feedOf
     group-refused f n =
@@ -164,6 +168,7 @@ module _ (u : Drive) (bytes image buffer : List ℕ) where
     buffer-short = λ l. rw (lt-ltb (length buffer) 262 l) (refused-feed _ FeedAnswer.BufferShort u image buffer refl);
     image-length = λ l w. rw (le-ltb (length buffer) 262 l, ne-eqb (length image) 4160 w) (refused-feed _ FeedAnswer.ImageLength u image buffer refl);
     taken = λ l w. rw (le-ltb (length buffer) 262 l, eq-eqb (length image) 4160 w);
+    group-silent = group-silent;
     frame-refused = frame-refused;
     group-refused = group-refused;
   }

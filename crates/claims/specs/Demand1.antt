@@ -100,6 +100,9 @@ pub record FeedRow (u : Drive) (bytes image buffer : List ℕ) : Type 0 where
   -- "image not 4,160 bytes | the same; tested after the buffer"
   pub image-length : 262 ≤ length buffer → (length image ≡ 4160 → ⊥) → FeedRefused "image not 4,160 bytes" u image buffer (feedOf u bytes image buffer)
   pub taken : 262 ≤ length buffer → length image ≡ 4160 → feedName (feedOf u bytes image buffer .answer) ≡ "taken"
+  -- "A group frame is obeyed and never answered"; "without an answer all are [unchanged]"
+  pub group-silent : 262 ≤ length buffer → length image ≡ 4160 → receivedBy u bytes .frame ≡ Frame.Group
+      → (feedOf u bytes image buffer .answered ≡ 0) × (feedOf u bytes image buffer .buffer ≡ buffer)
   -- "code 2, 3 or 15", to this unit alone and to a group
   pub frame-refused : 262 ≤ length buffer → length image ≡ 4160 → receivedBy u bytes .frame ≡ Frame.Alone
       → (frameCode u bytes ≡ 0 → ⊥) → FrameRefused u bytes image buffer (refusalPacket u (receivedBy u bytes .framing) (frameFault u bytes))
