@@ -167,7 +167,7 @@ fn next(n: u64) -> u64 {
     if n < u64::MAX { n + 1 } else { n }
 }
 
-// The numbers of a turn's line.
+// The numbers of a turn's line, in the order of its row; nine are left over.
 fn numbers_of(
     n: u64,
     at: u64,

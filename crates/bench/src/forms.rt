@@ -235,7 +235,7 @@ fn read_list(list: &[u8], is_missing: bool, great: bool) -> Reading {
     fields::read_as(fields::LAST, count as u64)
 }
 
-// What a field of a kind reads as.
+// What a field reads as, by the place of its kind among KINDS: HEX, RUN, SLOT, SEQ; else it is a number.
 fn value_of(kind: usize, field: &[u8]) -> Reading {
     if field.len() == 0 {
         return fields::wrong(fields::MISSING);
