@@ -1,4 +1,4 @@
--- The receiver in pieces, as the code works on it: the body lent, all else by value.
+-- For the code: the receiver in pieces, as it works on it: the body lent, all else by value.
 -- Assumes nothing.
 use Prim.Native.Nat.{ℕ, _<_, _≤_}
 use mathlib.Core.List.{List}
