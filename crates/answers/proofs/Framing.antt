@@ -1,40 +1,29 @@
--- Laws of a packet that is read: what its frame, its status and its data are, from the tests of single bytes and to them. Assumes nothing.
+-- Laws of a packet of either framing that is read: what its frame, its status and its data are, from the tests of single bytes and to them.
+-- Assumes nothing.
 use Prim.Native.Nat.{ℕ, suc, _+_, _-_, _%_, _/_, _≤_, _<_}
 use mathlib.Core.Path.{_≡_, refl, sym, ap, _∙_}
 use mathlib.Core.List.{List, [], _∷_, _++_}
-use mathlib.Core.Bool.{Bool, true, false, _&&_, and-eq-true-iff, and-true, and-false}
+use mathlib.Core.Bool.{Bool, true, false, _&&_, and-true, and-false}
 use native.Mathlib.Omega.{arith}
 use native.Mathlib.Numerals.{add-one}
-use lib.ListN.{length, getD, take, drop, take-append-drop, drop-of-length-le}
+use lib.ListN.{length, getD, take, drop, length-take, length-drop, take-append-drop, drop-of-length-le}
 use lib.Seq.{drop-cons, drop-drop, drop-length, getD-append-add}
 use lib.Dec.{eqb}
 use borrow.Author.Tests.{le-leb, lt-leb, eq-eqb, ne-eqb, eqb-true, eqb-false}
+use Rattle.parts.specs.Letters.{stx, etx, cr, lf, slash}
 use Rattle.parts.specs.Parts.{part, same}
-use Rattle.answers.specs.Packet.{slash, hostAddress, endOfText, carriageReturn, lineFeed, tail, packet, dataAt, aroundData, mostData}
-use Rattle.answers.specs.Reading.{statusIn, dataIn, framed, printable, allPrintable, goodData, goodStatus, bit, isPacket, insideOf}
+use Rattle.parts.proofs.Laws.{same-is, same-self}
+use Rattle.answers.specs.Packet.{hostAddress, packetAround, tail, packet, dataAt, aroundData, mostData}
+use Rattle.answers.specs.Reading.{statusIn, dataIn, framedBy, framed, oneBy, insideBy, Roomy}
+use Rattle.answers.specs.Reading.{printable, allPrintable, goodData, goodStatus, bit}
+use Rattle.answers.specs.Oem.{oemTail, oemPacket, aroundOem}
 use Rattle.answers.specs.declared.Inside.the-variants.{StatusData, Neither}
-use Rattle.answers.proofs.Writing.{length-packet}
-
--- ---- tests
+use Rattle.answers.proofs.Writing.{length-frame}
 
 -- a test that cannot be met fails
 pub fails : (b : Bool) → (b ≡ true → ⊥) → false ≡ b
 fails true f = absurd (f refl)
 fails false f = refl
-
-pub same-is : (xs ys : List ℕ) → same xs ys ≡ true → xs ≡ ys
-unfolding same
-same-is [] [] e = refl
-same-is [] (y ∷ ys) e = let z : _≡_ {A = ℕ} 0 1 = cc in absurd (omega arith)
-same-is (x ∷ xs) [] e = let z : _≡_ {A = ℕ} 0 1 = cc in absurd (omega arith)
-same-is (x ∷ xs) (y ∷ ys) e =
-    let k = and-eq-true-iff (eqb x y) (same xs ys) .0 e in
-    rw (eqb-true x y (k .0), same-is xs ys (k .1))
-
-pub same-self : (xs : List ℕ) → same xs xs ≡ true
-unfolding same
-same-self [] = refl
-same-self (x ∷ xs) = rw (eq-eqb x x refl) (same-self xs)
 
 -- ---- the frame
 
@@ -57,48 +46,72 @@ split k s h =
     sym (take-append-drop n (drop dataAt s)) ∙ ap (λ (l : List ℕ). take n (drop dataAt s) ++ l) (drop-drop n dataAt s ∙ ap (λ (m : ℕ). drop m s) end) in
     three s 0 (omega arith) ∙ ap (λ (l : List ℕ). getD s 0 0 ∷ getD s 1 0 ∷ getD s 2 0 ∷ l) rest
 
--- the bytes of the frame, tested one by one
-pub is-framed : (s : List ℕ) → aroundData ≤ length s → getD s 0 0 ≡ slash → getD s 1 0 ≡ hostAddress → getD s (length s - 3) 0 ≡ endOfText
-    → getD s (length s - 3 + 1) 0 ≡ carriageReturn → getD s (length s - 3 + 2) 0 ≡ lineFeed → framed s ≡ true
-unfolding framed packet dataIn
+-- a framing: what it makes of status and data is a frame, with so many bytes around the data
+pub record Framing (make : ℕ → List ℕ → List ℕ) (around start : ℕ) (back : ℕ → List ℕ → List ℕ) : Type 0 where
+  pub made : (status : ℕ) (bytes : List ℕ) → make status bytes ≡ packetAround start (back status bytes) status bytes
+  pub long : (status : ℕ) (bytes : List ℕ) → dataAt + length (back status bytes) ≡ around
+
+pub plain : Framing packet aroundData slash (λ _ _. tail)
+unfolding packet
+plain = record { made = λ s b. refl; long = λ s b. refl }
+
+pub oem : Framing oemPacket aroundOem stx oemTail
+unfolding oemPacket oemTail
+oem = record { made = λ s b. refl; long = λ s b. refl }
+
+module _ {make : ℕ → List ℕ → List ℕ} {around start : ℕ} {back : ℕ → List ℕ → List ℕ} (g : Framing make around start back) where
+  pub length-made : (status : ℕ) (bytes : List ℕ) → length (make status bytes) ≡ around + length bytes
+  length-made status bytes =
+      ap length (g .made status bytes) ∙ length-frame start (back status bytes) status bytes ∙ omega (arith, g .long status bytes)
+
+  module _ (s : List ℕ) (f : framedBy make around s ≡ true) where
+    -- a framed list is the packet of its status and data
+    pub framed-is : s ≡ make (statusIn s) (dataIn around s)
+    unfolding framedBy
+    framed-is = same-is s (make (statusIn s) (dataIn around s)) f
+
+    pub framed-long : around + length (dataIn around s) ≡ length s
+    framed-long = sym (ap length framed-is ∙ length-made (statusIn s) (dataIn around s))
+
+    framed-as : s ≡ packetAround start (back (statusIn s) (dataIn around s)) (statusIn s) (dataIn around s)
+    framed-as = framed-is ∙ g .made (statusIn s) (dataIn around s)
+
+    pub framed-first : getD s 0 0 ≡ start
+    framed-first = ap (λ (l : List ℕ). getD l 0 0) framed-as
+
+    pub framed-second : getD s 1 0 ≡ hostAddress
+    framed-second = ap (λ (l : List ℕ). getD l 1 0) framed-as
+
+    pub framed-last : (k : ℕ) → getD s (length s - (around - dataAt) + k) 0 ≡ getD (back (statusIn s) (dataIn around s)) k 0
+    framed-last k =
+        let front : List ℕ = start ∷ hostAddress ∷ statusIn s ∷ dataIn around s in
+        let at : length s - (around - dataAt) + k ≡ length front + k = omega (arith, framed-long, g .long (statusIn s) (dataIn around s)) in
+        ap (λ (i : ℕ). getD s i 0) at
+        ∙ ap (λ (l : List ℕ). getD l (length front + k) 0) framed-as
+        ∙ getD-append-add front (back (statusIn s) (dataIn around s)) k 0
+
+  -- so it has room for what stands around the data
+  pub roomy : (s : List ℕ) {a : Bool} → a ≡ framedBy make around s → Roomy a around s
+  roomy s e = record { head = omega (arith, g .long 0 []); whole = λ f. omega (arith, framed-long s (sym e ∙ f)) }
+
+-- the bytes of the plain frame, tested one by one
+is-framed : (s : List ℕ) → aroundData ≤ length s → getD s 0 0 ≡ slash → getD s 1 0 ≡ hostAddress → getD s (length s - 3) 0 ≡ etx
+    → getD s (length s - 3 + 1) 0 ≡ cr → getD s (length s - 3 + 2) 0 ≡ lf → framed s ≡ true
+unfolding framedBy packet dataIn
 is-framed s h a b x y z =
     let end : length s - 3 + 3 ≡ length s = omega arith in
     let last : drop (length s - 3) s ≡ tail = three s (length s - 3) (omega arith) ∙ rw (x, y, z, end, drop-length s) in
-    let whole : s ≡ packet (statusIn s) (dataIn s) = split 3 s h ∙ rw (a, b, last) in
+    let whole : s ≡ packet (statusIn s) (dataIn aroundData s) = split 3 s h ∙ rw (a, b, last) in
     ap (λ (l : List ℕ). same s l) (sym whole) ∙ same-self s
 
-module _ (s : List ℕ) (f : framed s ≡ true) where
-  -- a framed list is the packet of its status and data
-  pub framed-is : s ≡ packet (statusIn s) (dataIn s)
-  unfolding framed
-  framed-is = same-is s (packet (statusIn s) (dataIn s)) f
-
-  pub framed-long : aroundData + length (dataIn s) ≡ length s
-  framed-long = sym (ap length framed-is ∙ length-packet (statusIn s) (dataIn s))
-
-  pub framed-first : getD s 0 0 ≡ slash
-  unfolding packet
-  framed-first = ap (λ (l : List ℕ). getD l 0 0) framed-is
-
-  pub framed-second : getD s 1 0 ≡ hostAddress
-  unfolding packet
-  framed-second = ap (λ (l : List ℕ). getD l 1 0) framed-is
-
-  pub framed-last : (k : ℕ) → getD s (length s - 3 + k) 0 ≡ getD tail k 0
-  unfolding packet
-  framed-last k =
-      let front : List ℕ = slash ∷ hostAddress ∷ statusIn s ∷ dataIn s in
-      let at : length s - 3 + k ≡ length front + k = omega (arith, framed-long) in
-      ap (λ (i : ℕ). getD s i 0) at ∙ ap (λ (l : List ℕ). getD l (length front + k) 0) framed-is ∙ getD-append-add front tail k 0
-
 -- where all bytes of the frame but the last are right, the last tells
-pub by-last : (s : List ℕ) → aroundData ≤ length s → getD s 0 0 ≡ slash → getD s 1 0 ≡ hostAddress → getD s (length s - 3) 0 ≡ endOfText
-    → getD s (length s - 3 + 1) 0 ≡ carriageReturn → eqb (getD s (length s - 3 + 2) 0) lineFeed ≡ framed s
-by-last s h a b x y = go (eqb (getD s (length s - 3 + 2) 0) lineFeed) refl
+pub by-last : (s : List ℕ) → aroundData ≤ length s → getD s 0 0 ≡ slash → getD s 1 0 ≡ hostAddress → getD s (length s - 3) 0 ≡ etx
+    → getD s (length s - 3 + 1) 0 ≡ cr → eqb (getD s (length s - 3 + 2) 0) lf ≡ framed s
+by-last s h a b x y = go (eqb (getD s (length s - 3 + 2) 0) lf) refl
   where
-    go : (t : Bool) → eqb (getD s (length s - 3 + 2) 0) lineFeed ≡ t → t ≡ framed s
+    go : (t : Bool) → eqb (getD s (length s - 3 + 2) 0) lf ≡ t → t ≡ framed s
     go true e = sym (is-framed s h a b x y (eqb-true _ _ e))
-    go false e = fails (framed s) (λ f. eqb-false _ _ e (framed-last s f 2))
+    go false e = fails (framed s) (λ f. eqb-false _ _ e (framed-last plain s f 2))
 
 -- ---- the status
 
@@ -147,34 +160,36 @@ data-long s h = sym (rw (lt-leb _ _ h))
 
 -- ---- the whole
 
--- the part that is lent to be judged is the data
-data-lent : (s : List ℕ) → take (dataAt + (length s - aroundData) - dataAt) (drop dataAt s) ≡ dataIn s
-unfolding dataIn part
-data-lent s = let e : dataAt + (length s - aroundData) - dataAt ≡ length s - aroundData = omega arith in rw e
-
-module _ (s : List ℕ) where
+module _ (s : List ℕ) (around : ℕ) where
   abbrev lent : List ℕ
-  lent = take (dataAt + (length s - aroundData) - dataAt) (drop dataAt s)
+  lent = take (dataAt + (length s - around) - dataAt) (drop dataAt s)
 
-  pub inside-is : {a b c : Bool} → a ≡ framed s → a ≡ true → b ≡ goodStatus (statusIn s) → b ≡ true → c ≡ goodData lent → c ≡ true
-      → StatusData (statusIn s) (length s - aroundData) ≡ insideOf s
-  unfolding insideOf isPacket
-  inside-is e f g h x y =
-      let framed-so : framed s ≡ true = sym e ∙ f in
+  -- the part that is lent to be judged is the data
+  data-lent : lent ≡ dataIn around s
+  unfolding dataIn part
+  data-lent = let e : dataAt + (length s - around) - dataAt ≡ length s - around = omega arith in rw e
+
+  data-length : dataAt ≤ around → around ≤ length s → length s - around ≡ length (dataIn around s)
+  unfolding dataIn part
+  data-length h g = simp (length-take, length-drop) (omega arith)
+
+  pub inside-is : {a b c : Bool} → Roomy a around s → a ≡ true → b ≡ goodStatus (statusIn s) → b ≡ true → c ≡ goodData lent → c ≡ true
+      → StatusData (statusIn s) (length s - around) ≡ insideBy a around s
+  unfolding insideBy oneBy
+  inside-is r f g h x y =
       let status-so : goodStatus (statusIn s) ≡ true = sym g ∙ h in
-      let data-so : goodData (dataIn s) ≡ true = rw (data-lent s) at (sym x ∙ y) in
-      let long : length s - aroundData ≡ length (dataIn s) = omega (arith, framed-long s framed-so) in
-      rw (framed-so, status-so, data-so, long)
+      let data-so : goodData (dataIn around s) ≡ true = rw data-lent at (sym x ∙ y) in
+      rw (f, status-so, data-so, data-length (r .head) (r .whole f))
 
   -- each test that fails
-  pub no-frame : {a : Bool} → a ≡ framed s → a ≡ false → Neither ≡ insideOf s
-  unfolding insideOf isPacket
-  no-frame e f = rw (← e, f)
+  pub no-frame : {a : Bool} → a ≡ false → Neither ≡ insideBy a around s
+  unfolding insideBy oneBy
+  no-frame f = rw f
 
-  pub no-status : {b : Bool} → b ≡ goodStatus (statusIn s) → b ≡ false → Neither ≡ insideOf s
-  unfolding insideOf isPacket
-  no-status e f = rw (← e, f, and-false)
+  pub no-status : (a : Bool) {b : Bool} → b ≡ goodStatus (statusIn s) → b ≡ false → Neither ≡ insideBy a around s
+  unfolding insideBy oneBy
+  no-status a e f = rw (← e, f, and-false)
 
-  pub no-data : {c : Bool} → c ≡ goodData lent → c ≡ false → Neither ≡ insideOf s
-  unfolding insideOf isPacket
-  no-data e f = let data-so : goodData (dataIn s) ≡ false = rw (data-lent s) at (sym e ∙ f) in rw (data-so, and-false, and-false)
+  pub no-data : (a : Bool) {c : Bool} → c ≡ goodData lent → c ≡ false → Neither ≡ insideBy a around s
+  unfolding insideBy oneBy
+  no-data a e f = let data-so : goodData (dataIn around s) ≡ false = rw data-lent at (sym e ∙ f) in rw (data-so, and-false, and-false)

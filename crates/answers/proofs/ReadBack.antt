@@ -5,24 +5,26 @@ use mathlib.Core.List.{List, _∷_, _++_}
 use mathlib.Core.Bool.{Bool, true, false, not, cond, _&&_, and-eq-true-iff}
 use native.Mathlib.Omega.{arith}
 use native.Mathlib.Decide.{decLt}
-use lib.ListN.{length, take, drop, length-append}
+use lib.ListN.{length, take, drop}
 use lib.Seq.{take-append-seam}
 use lib.Dec.{leb, eqb}
 use borrow.Author.Tests.{le-leb, eq-eqb, ne-eqb, eqb-true, eqb-false, not-true}
 use Rattle.parts.specs.Parts.{part}
-use Rattle.parts.proofs.Laws.{put-front, put-in-room, take-padded}
+use Rattle.parts.proofs.Laws.{put-front, put-in-room, take-padded, same-self}
 use Rattle.digits.specs.Operand.{widest}
 use Rattle.digits.specs.Decimal.{ascii, decimal}
 use Rattle.digits.specs.declared.Written.{Written}
 use Rattle.digits.specs.declared.Written.the-variants.{Past}
 use Rattle.digits.proofs.ReadBack.{Digits, none, one, digits-digits}
-use Rattle.answers.specs.Packet.{tail, packet, lowFour, statusOf, dataAt, aroundData, mostData, packetBytes, numberData, PacketIs}
-use Rattle.answers.specs.Reading.{statusIn, dataIn, framed, bit, goodStatus, allPrintable, goodData, isPacket, insideOf, foundOf, refused, toldOf, readOf}
-use Rattle.answers.specs.AnswerClaims.{ReadsAs, Genuine, StatusBits}
+use Rattle.answers.specs.Packet.{lowFour, statusOf, dataAt, aroundData, mostData, packetBytes, numberData, PacketAs}
+use Rattle.answers.specs.Reading.{statusIn, dataIn, framedBy, oneBy, insideBy, foundOf, packetRefused, toldOf}
+use Rattle.answers.specs.Reading.{bit, goodStatus, allPrintable, goodData}
+use Rattle.answers.specs.AnswerClaims.{ToldAs, GenuineAs, StatusBits}
+use Rattle.answers.specs.declared.Packet.{Packet}
 use Rattle.answers.specs.declared.Found.the-variants.{OnePacket, NotOnePacket}
 use Rattle.answers.specs.declared.Inside.the-variants.{StatusData, Neither}
-use Rattle.answers.proofs.Writing.{length-packet, number-most}
-use Rattle.answers.proofs.Framing.{same-self, framed-is, framed-long}
+use Rattle.answers.proofs.Writing.{number-most}
+use Rattle.answers.proofs.Framing.{Framing, length-made, framed-is, framed-long}
 
 -- ---- the status
 
@@ -97,112 +99,120 @@ status-apart i j c d h g e =
     let low : statusOf i c % 16 ≡ statusOf j d % 16 = ap (λ (n : ℕ). n % 16) e in
     (sym (a .bit-5) ∙ ap (λ (n : ℕ). bit 5 n) e ∙ b .bit-5, omega (arith, a .low-four, b .low-four))
 
--- ---- packets
+-- ---- a packet of either framing, read back
 
-pub packet-apart : (s t : ℕ) (x y : List ℕ) → packet s x ≡ packet t y → (s ≡ t) × (x ≡ y)
-unfolding packet
-packet-apart s t x y e =
-    let rest : x ++ tail ≡ y ++ tail = cc in
-    let long : length x ≡ length y = omega (arith, simp length-append at (ap length rest)) in
-    (cc, sym (take-append-seam x tail) ∙ rw (long, rest) (take-append-seam y tail))
+module _ {make : ℕ → List ℕ → List ℕ} {around start : ℕ} {back : ℕ → List ℕ → List ℕ} (g : Framing make around start back) where
+  module _ (status : ℕ) (bytes : List ℕ) where
+    status-back : statusIn (make status bytes) ≡ status
+    status-back = ap statusIn (g .made status bytes)
 
--- a buffer of 262 bytes
-pub fits : {buffer : List ℕ} {status : ℕ} {bytes : List ℕ} {r : Written} {after : List ℕ} → packetBytes ≤ length buffer → length bytes ≤ mostData
-    → PacketIs buffer status bytes r after
-    → (r ≡ Past (aroundData + length bytes)) × (after ≡ packet status bytes ++ drop (aroundData + length bytes) buffer)
-fits {buffer} {status} {bytes} h g p =
-    let long : length (packet status bytes) ≡ aroundData + length bytes = length-packet status bytes in
-    let short : leb (length bytes) mostData ≡ true = le-leb (length bytes) mostData g in
-    let room : leb (0 + length (packet status bytes)) (length buffer) ≡ true = le-leb (0 + length (packet status bytes)) (length buffer) (omega arith) in
-    let from : 0 + length (packet status bytes) ≡ aroundData + length bytes = omega arith in (
-      p .answers ∙ rw (short, room, from),
-      p .leaves ∙ rw (short, put-in-room buffer 0 (packet status bytes) (omega arith), put-front buffer (packet status bytes), long),
-    )
+    part-back : part (make status bytes) dataAt (length bytes) ≡ bytes
+    unfolding part
+    part-back = rw (g .made status bytes) (take-append-seam bytes (back status bytes))
 
--- ---- a packet, read back
+    data-back : dataIn around (make status bytes) ≡ bytes
+    unfolding dataIn
+    data-back =
+        let n : length (make status bytes) - around ≡ length bytes = omega (arith, length-made g status bytes) in
+        rw n part-back
 
-module _ (status : ℕ) (bytes : List ℕ) where
-  status-back : statusIn (packet status bytes) ≡ status
-  unfolding packet
-  status-back = refl
+    framed-back : framedBy make around (make status bytes) ≡ true
+    unfolding framedBy
+    framed-back = rw (status-back, data-back) (same-self (make status bytes))
 
-  part-back : part (packet status bytes) dataAt (length bytes) ≡ bytes
-  unfolding part packet
-  part-back = take-append-seam bytes tail
+    inside-back : goodStatus status ≡ true → goodData bytes ≡ true
+        → insideBy (framedBy make around (make status bytes)) around (make status bytes) ≡ StatusData status (length bytes)
+    unfolding insideBy oneBy
+    inside-back h d = rw (framed-back, status-back, data-back, h, d)
 
-  data-back : dataIn (packet status bytes) ≡ bytes
-  unfolding dataIn
-  data-back =
-      let n : length (packet status bytes) - aroundData ≡ length bytes = omega (arith, length-packet status bytes) in
-      rw n part-back
+  -- what the host is told of a slice
+  abbrev told : List ℕ → Packet
+  told s = toldOf (insideBy (framedBy make around s) around s)
 
-  framed-back : framed (packet status bytes) ≡ true
-  unfolding framed
-  framed-back = rw (status-back, data-back) (same-self (packet status bytes))
+  pub reads-back : (idle : Bool) (code : ℕ) (bytes : List ℕ) → goodData bytes ≡ true
+      → ToldAs (told (make (statusOf idle code) bytes)) (make (statusOf idle code) bytes) idle code bytes
+  unfolding toldOf
+  reads-back idle code bytes h =
+      let e = inside-back (statusOf idle code) bytes (status-good idle code) h in
+      let b = status-bits idle code in
+      record {
+        as-packet = rw e;
+        as-status = rw e;
+        as-idle = rw e (b .bit-5);
+        as-code = rw e (b .low-four);
+        as-data = rw e (part-back (statusOf idle code) bytes);
+      }
 
-  inside-back : goodStatus status ≡ true → goodData bytes ≡ true → insideOf (packet status bytes) ≡ StatusData status (length bytes)
-  unfolding insideOf isPacket
-  inside-back g h = rw (framed-back, status-back, data-back, g, h)
+  -- no two packets are alike
+  pub packet-apart : (s t : ℕ) (x y : List ℕ) → make s x ≡ make t y → (s ≡ t) × (x ≡ y)
+  packet-apart s t x y e = (
+    sym (status-back s x) ∙ ap statusIn e ∙ status-back t y,
+    sym (data-back s x) ∙ ap (dataIn around) e ∙ data-back t y,
+  )
 
-pub reads-back : (idle : Bool) (code : ℕ) (bytes : List ℕ) → goodData bytes ≡ true → ReadsAs (packet (statusOf idle code) bytes) idle code bytes
-unfolding toldOf
-reads-back idle code bytes h =
-    let e = inside-back (statusOf idle code) bytes (status-good idle code) h in
-    let b = status-bits idle code in
-    record {
-      as-packet = rw e;
-      as-status = rw e;
-      as-idle = rw e (b .bit-5);
-      as-code = rw e (b .low-four);
-      as-data = rw e (part-back (statusOf idle code) bytes);
-    }
+  -- a buffer of 262 bytes
+  pub fits : {buffer : List ℕ} {status : ℕ} {bytes : List ℕ} {r : Written} {after : List ℕ} → around ≤ aroundData → packetBytes ≤ length buffer
+      → length bytes ≤ mostData → PacketAs make buffer status bytes r after
+      → (r ≡ Past (around + length bytes)) × (after ≡ make status bytes ++ drop (around + length bytes) buffer)
+  fits {buffer} {status} {bytes} few b d p =
+      let long : length (make status bytes) ≡ around + length bytes = length-made g status bytes in
+      let short : leb (length bytes) mostData ≡ true = le-leb (length bytes) mostData d in
+      let room : leb (0 + length (make status bytes)) (length buffer) ≡ true =
+      le-leb (0 + length (make status bytes)) (length buffer) (omega arith) in
+      let from : 0 + length (make status bytes) ≡ around + length bytes = omega arith in (
+        p .answers ∙ rw (short, room, from),
+        p .leaves ∙ rw (short, put-in-room buffer 0 (make status bytes) (omega arith), put-front buffer (make status bytes), long),
+      )
 
 -- ---- what is read is a packet
 
 -- what is told, by whether the slice is one packet
-told-packet : (s : List ℕ) → isPacket s ≡ true → readOf s ≡ toldOf (StatusData (statusIn s) (length (dataIn s)))
-unfolding insideOf
-told-packet s e = rw e
+module _ (isFramed : Bool) (around : ℕ) (s : List ℕ) where
+  told-packet : oneBy isFramed around s ≡ true → insideBy isFramed around s ≡ StatusData (statusIn s) (length (dataIn around s))
+  unfolding insideBy
+  told-packet e = rw e
 
-told-refused : (s : List ℕ) → isPacket s ≡ false → readOf s ≡ refused
-unfolding insideOf toldOf
-told-refused s e = rw e
+  told-refused : oneBy isFramed around s ≡ false → toldOf (insideBy isFramed around s) ≡ packetRefused
+  unfolding insideBy toldOf
+  told-refused e = rw e
 
-pub which : (s : List ℕ) → readOf s .found ≡ foundOf (isPacket s)
-unfolding insideOf toldOf
-which s = go (isPacket s)
-  where
-    go : (t : Bool) → toldOf (cond t (StatusData (statusIn s) (length (dataIn s))) Neither) .found ≡ foundOf t
-    go true = refl
-    go false = refl
+  pub which : toldOf (insideBy isFramed around s) .found ≡ foundOf (oneBy isFramed around s)
+  unfolding insideBy toldOf
+  which = go (oneBy isFramed around s)
+    where
+      go : (t : Bool) → toldOf (cond t (StatusData (statusIn s) (length (dataIn around s))) Neither) .found ≡ foundOf t
+      go true = refl
+      go false = refl
 
-pub refused-zeros : (s : List ℕ) → readOf s .found ≡ NotOnePacket → readOf s ≡ refused
-unfolding toldOf
-refused-zeros s e = go (isPacket s) refl
-  where
-    go : (t : Bool) → isPacket s ≡ t → readOf s ≡ refused
-    go true f = let g = ap (λ p. p .found) (told-packet s f) in let z : _≡_ {A = ℕ} 0 1 = cc in absurd (omega arith)
-    go false f = told-refused s f
+  -- so what is found is one packet, and what is not found is none
+  found-one : toldOf (insideBy isFramed around s) .found ≡ OnePacket → oneBy isFramed around s ≡ true
+  found-one e = go (oneBy isFramed around s) (sym which ∙ e)
+    where
+      go : (t : Bool) → foundOf t ≡ OnePacket → t ≡ true
+      go true f = refl
+      go false f = let z : _≡_ {A = ℕ} 0 1 = cc in absurd (omega arith)
 
-genuine : (s : List ℕ) → isPacket s ≡ true → Genuine s
-unfolding toldOf dataIn isPacket
-genuine s f =
-    let a = and-eq-true-iff (framed s) (goodStatus (statusIn s) && goodData (dataIn s)) .0 f in
-    let b = and-eq-true-iff (goodStatus (statusIn s)) (goodData (dataIn s)) .0 (a .1) in
-    let e = told-packet s f in
-    let n : length (dataIn s) ≡ length s - aroundData = omega (arith, framed-long s (a .0)) in
+  pub refused-zeros : toldOf (insideBy isFramed around s) .found ≡ NotOnePacket → toldOf (insideBy isFramed around s) ≡ packetRefused
+  refused-zeros e = told-refused (go (oneBy isFramed around s) (sym which ∙ e))
+    where
+      go : (t : Bool) → foundOf t ≡ NotOnePacket → t ≡ false
+      go true f = let z : _≡_ {A = ℕ} 0 1 = cc in absurd (omega arith)
+      go false f = refl
+
+pub nothing-else : {make : ℕ → List ℕ → List ℕ} {around start : ℕ} {back : ℕ → List ℕ → List ℕ} (g : Framing make around start back) (s : List ℕ)
+    → told g s .found ≡ OnePacket → GenuineAs make (told g s) s
+unfolding toldOf dataIn oneBy
+nothing-else {make} {around} g s found =
+    let f = found-one (framedBy make around s) around s found in
+    let a = and-eq-true-iff (framedBy make around s) (goodStatus (statusIn s) && goodData (dataIn around s)) .0 f in
+    let b = and-eq-true-iff (goodStatus (statusIn s)) (goodData (dataIn around s)) .0 (a .1) in
+    let e = told-packet (framedBy make around s) around s f in
+    let n : length (dataIn around s) ≡ length s - around = omega (arith, framed-long g s (a .0)) in
     record {
-      whole = rw (e, n) (framed-is s (a .0));
+      whole = rw (e, n) (framed-is g s (a .0));
       status-good = rw e (b .0);
       data-good = rw (e, n) (b .1);
     }
-
-pub nothing-else : (s : List ℕ) → readOf s .found ≡ OnePacket → Genuine s
-nothing-else s e = go (isPacket s) refl
-  where
-    go : (t : Bool) → isPacket s ≡ t → Genuine s
-    go true f = genuine s f
-    go false f = let g = ap (λ p. p .found) (told-refused s f) in let z : _≡_ {A = ℕ} 0 1 = cc in absurd (omega arith)
 
 -- ---- numbers
 

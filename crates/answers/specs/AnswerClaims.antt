@@ -10,7 +10,7 @@ use Rattle.digits.specs.Operand.{widest}
 use Rattle.digits.specs.Decimal.{decimal}
 use Rattle.digits.specs.declared.Written.{Written}
 use Rattle.answers.specs.Packet.{packet, lowFour, statusOf, aroundData, mostData, packetBytes, numberData, PacketIs}
-use Rattle.answers.specs.Reading.{bit, goodStatus, goodData, isPacket, foundOf, refused, readOf}
+use Rattle.answers.specs.Reading.{bit, goodStatus, goodData, isPacket, foundOf, packetRefused, readOf}
 use Rattle.answers.specs.Oem.{oemPacket, aroundOem, OemPacketIs, isOemPacket, readOemOf}
 use Rattle.answers.specs.declared.Packet.{Packet}
 use Rattle.answers.specs.declared.Found.the-variants.{OnePacket, NotOnePacket}
@@ -61,7 +61,7 @@ pub record AnswerClaims : Type 0 where
   -- whatever is read as a packet is the packet of the status and the data that are told: nothing else is taken
   pub nothing-else : (s : List ℕ) → readOf s .found ≡ OnePacket → Genuine s
   -- whatever is refused is told by name and zeros
-  pub refused-zeros : (s : List ℕ) → readOf s .found ≡ NotOnePacket → readOf s ≡ refused
+  pub refused-zeros : (s : List ℕ) → readOf s .found ≡ NotOnePacket → readOf s ≡ packetRefused
   -- a status has the bits that 01 names, and no other byte is a status
   pub status-bits : (idle : Bool) (code : ℕ) → StatusBits (statusOf idle code) idle code
   pub status-only : (n : ℕ) → n < 256 → goodStatus n ≡ true → n ≡ statusOf (bit 5 n) (lowFour n)
@@ -89,7 +89,7 @@ pub record AnswerClaims : Type 0 where
   pub reads-back-oem : (idle : Bool) (code : ℕ) (bytes : List ℕ) → goodData bytes ≡ true
       → ReadsAsOem (oemPacket (statusOf idle code) bytes) idle code bytes
   pub nothing-else-oem : (s : List ℕ) → readOemOf s .found ≡ OnePacket → GenuineAs oemPacket (readOemOf s) s
-  pub refused-zeros-oem : (s : List ℕ) → readOemOf s .found ≡ NotOnePacket → readOemOf s ≡ refused
+  pub refused-zeros-oem : (s : List ℕ) → readOemOf s .found ≡ NotOnePacket → readOemOf s ≡ packetRefused
   pub oem-packet-apart : (s t : ℕ) (x y : List ℕ) → oemPacket s x ≡ oemPacket t y → (s ≡ t) × (x ≡ y)
   -- no slice is a packet of both framings
   pub framings-apart : (s t : ℕ) (x y : List ℕ) → packet s x ≡ oemPacket t y → ⊥

@@ -1,4 +1,5 @@
 pub mod Packet
 pub mod Reading
+pub mod Names
 pub mod Oem
 pub mod AnswerClaims

@@ -6,33 +6,26 @@ use mathlib.Core.Path.{_≡_}
 use lib.ListN.{length}
 use lib.Dec.{leb}
 use Rattle.parts.specs.Parts.{padded, putIn}
+use Rattle.parts.specs.Letters.{byte, slash, cr, lf, etx}
 use Rattle.digits.specs.Decimal.{decimal, writtenAt}
 use Rattle.digits.specs.declared.Written.{Written}
 use Rattle.answers.specs.declared.Data.{Data}
 
--- "Packet: `/`, `0`, status, data, 03, CR, LF": the bytes by their names
-abbrev pub slash : ℕ
-slash = 47
-
+-- "Packet: `/`, `0`, .."
 abbrev pub hostAddress : ℕ
-hostAddress = 48
+hostAddress = byte "0"
 
-abbrev pub endOfText : ℕ
-endOfText = 3
-
-abbrev pub carriageReturn : ℕ
-carriageReturn = 13
-
-abbrev pub lineFeed : ℕ
-lineFeed = 10
+-- a packet of either framing: its first byte and its tail stand around "`0`, status, data"
+abbrev pub packetAround : ℕ → List ℕ → ℕ → List ℕ → List ℕ
+packetAround start back status bytes = start ∷ hostAddress ∷ status ∷ (bytes ++ back)
 
 -- 03, CR, LF
 abbrev pub tail : List ℕ
-tail = endOfText ∷ carriageReturn ∷ lineFeed ∷ []
+tail = etx ∷ cr ∷ lf ∷ []
 
 -- "`/`, `0`, status, data, 03, CR, LF"
 unfoldable pub packet : ℕ → List ℕ → List ℕ
-packet status bytes = slash ∷ hostAddress ∷ status ∷ (bytes ++ tail)
+packet status bytes = packetAround slash tail status bytes
 
 -- three bytes stand before the data, three behind it
 abbrev pub dataAt : ℕ

@@ -1,8 +1,9 @@
 -- A packet that the host reads. 01, the row "slice not exactly one packet (status bit 6 set, bits 7 and 4 clear,
 -- data 0 to 256 bytes of 20 to 7E hex) | named refusal". Assumes nothing.
-use Prim.Native.Nat.{ℕ, _-_, _/_, _%_, _^_}
+use Prim.Native.Nat.{ℕ, _-_, _/_, _%_, _^_, _≤_}
 use mathlib.Core.List.{List, [], _∷_}
 use mathlib.Core.Bool.{Bool, true, false, cond, not, _&&_}
+use mathlib.Core.Path.{_≡_}
 use lib.ListN.{length, getD}
 use lib.Dec.{leb, eqb}
 use Rattle.parts.specs.Parts.{part, same}
@@ -17,12 +18,16 @@ use Rattle.answers.specs.declared.Inside.the-variants.{StatusData, Neith
 abbrev pub statusIn : List ℕ → ℕ
 statusIn s = getD s 2 0
 
-unfoldable pub dataIn : List ℕ → List ℕ
-dataIn s = part s dataAt (length s - aroundData)
+unfoldable pub dataIn : ℕ → List ℕ → List ℕ
+dataIn around s = part s dataAt (length s - around)
 
--- "`/`, `0`, status, data, 03, CR, LF": the packet of its own status and data, and no byte more or less
-unfoldable pub framed : List ℕ → Bool
-framed s = same s (packet (statusIn s) (dataIn s))
+-- the packet of its own status and data, as a framing makes it, and no byte more or less
+unfoldable pub framedBy : (ℕ → List ℕ → List ℕ) → ℕ → List ℕ → Bool
+framedBy make around s = same s (make (statusIn s) (dataIn around s))
+
+-- "`/`, `0`, status, data, 03, CR, LF"
+abbrev pub framed : List ℕ → Bool
+framed s = framedBy packet aroundData s
 
 -- bit k of a byte
 abbrev pub bit : ℕ → ℕ → Bool
@@ -44,13 +49,21 @@ allPrintable (b ∷ bs) = printable b && allPrintable bs
 unfoldable pub goodData : List ℕ → Bool
 goodData bytes = leb (length bytes) mostData && allPrintable bytes
 
--- "exactly one packet"
-unfoldable pub isPacket : List ℕ → Bool
-isPacket s = framed s && (goodStatus (statusIn s) && goodData (dataIn s))
+-- "exactly one packet": framed, with good status and data
+unfoldable pub oneBy : Bool → ℕ → List ℕ → Bool
+oneBy isFramed around s = isFramed && (goodStatus (statusIn s) && goodData (dataIn around s))
+
+abbrev pub isPacket : List ℕ → Bool
+isPacket s = oneBy (framed s) aroundData s
 
 -- status and number of data bytes, or neither
-unfoldable pub insideOf : List ℕ → Inside
-insideOf s = cond (isPacket s) (StatusData (statusIn s) (length (dataIn s))) Neither
+unfoldable pub insideBy : Bool → ℕ → List ℕ → Inside
+insideBy isFramed around s = cond (oneBy isFramed around s) (StatusData (statusIn s) (length (dataIn around s))) Neither
+
+-- a framed slice has the bytes that stand around the data
+pub record Roomy (isFramed : Bool) (around : ℕ) (s : List ℕ) : Type 0 where
+  pub head : dataAt ≤ around
+  pub whole : isFramed ≡ true → around ≤ length s
 
 -- "exactly one packet", and the "named refusal" of every other slice
 abbrev pub foundOf : Bool → Found
@@ -58,8 +71,8 @@ foundOf true = OnePacket
 foundOf false = NotOnePacket
 
 -- a refusal has zeros beside its name
-abbrev pub refused : Packet
-refused = record { found = foundOf false; status = 0; idle = false; code = 0; at = 0; length = 0 }
+abbrev pub packetRefused : Packet
+packetRefused = record { found = foundOf false; status = 0; idle = false; code = 0; at = 0; length = 0 }
 
 -- what the host is told: "bit 5 set when idle", "low four bits the code", and where the data lies
 unfoldable pub toldOf : Inside → Packet
@@ -71,7 +84,7 @@ toldOf (StatusData status n) = record {
   at = dataAt;
   length = n;
 }
-toldOf Neither = refused
+toldOf Neither = packetRefused
 
 abbrev pub readOf : List ℕ → Packet
-readOf s = toldOf (insideOf s)
+readOf s = toldOf (insideBy (framed s) aroundData s)

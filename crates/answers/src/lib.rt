@@ -1,8 +1,8 @@
 // Answers: the status, a packet written from a status and data, a packet read, in both framings.
 ghost use mathlib.Core.Path.{_≡_};
-ghost use Rattle.answers.specs.Packet.{statusOf, numberData, PacketIs};
-ghost use Rattle.answers.specs.Reading.{framed, goodStatus, goodData, insideOf, toldOf, readOf};
-ghost use Rattle.answers.specs.Oem.{oemSum, OemPacketIs, oemFramed, oemInsideOf, readOemOf};
+ghost use Rattle.answers.specs.Packet.{statusOf, numberData, packetAround, PacketAs, PacketIs};
+ghost use Rattle.answers.specs.Reading.{framed, goodStatus, goodData, insideBy, Roomy, toldOf, readOf};
+ghost use Rattle.answers.specs.Oem.{oemSum, OemPacketIs, oemFramed, readOemOf};
 ghost use Rattle.answers.specs.AnswerClaims.{AnswerClaims};
 use digits::Written;
 
@@ -99,38 +99,36 @@ pub fn status(idle: bool, code: u8) -> u8
 pub fn write_packet(buffer: &mut [u8], status: u8, data: &[u8]) -> Written
     ensures { λ r. ⌜ PacketIs (now (buffer .entry)) status (now («data» .entry)) r (now (buffer .exit)) ⌝ }
 {
-    let n = data.len();
-    if MOST_DATA < n {
-        return Written::NoRoom;
-    }
-    if buffer.len() < AROUND_DATA + n {
-        return Written::NoRoom;
-    }
-    let head = [SLASH, HOST_ADDRESS, status];
     let tail = [END_OF_TEXT, CARRIAGE_RETURN, LINE_FEED];
-    parts::put_at(buffer, 0, &head);
-    parts::put_at(buffer, DATA_AT, data);
-    parts::put_at(buffer, DATA_AT + n, &tail);
-    Written::Past(AROUND_DATA + n)
+    write_framed(buffer, SLASH, status, data, &tail)
 }
 
 // The same in the OEM framing.
 pub fn write_oem_packet(buffer: &mut [u8], status: u8, data: &[u8]) -> Written
     ensures { λ r. ⌜ OemPacketIs (now (buffer .entry)) status (now («data» .entry)) r (now (buffer .exit)) ⌝ }
 {
-    let count = data.len();
-    if MOST_DATA < count {
+    let tail = [END_OF_TEXT, oem_sum(status, data)];
+    write_framed(buffer, START_OF_TEXT, status, data, &tail)
+}
+
+// The packet of either framing, by its first byte and its tail.
+fn write_framed(buffer: &mut [u8], start: u8, status: u8, data: &[u8], tail: &[u8]) -> Written
+    ensures { λ r. ⌜ PacketAs (packetAround start (now (tail .entry))) (now (buffer .entry)) status (now («data» .entry)) r (now (buffer .exit)) ⌝ }
+{
+    let n = data.len();
+    if MOST_DATA < n {
         return Written::NoRoom;
     }
-    if buffer.len() < AROUND_OEM + count {
+    let end = DATA_AT + n;
+    let past = end + tail.len();
+    if buffer.len() < past {
         return Written::NoRoom;
     }
-    let head = [START_OF_TEXT, HOST_ADDRESS, status];
-    let end = [END_OF_TEXT, oem_sum(status, data)];
+    let head = [start, HOST_ADDRESS, status];
     parts::put_at(buffer, 0, &head);
     parts::put_at(buffer, DATA_AT, data);
-    parts::put_at(buffer, DATA_AT + count, &end);
-    Written::Past(AROUND_OEM + count)
+    parts::put_at(buffer, end, tail);
+    Written::Past(past)
 }
 
 // The checksum of an OEM packet.
@@ -156,14 +154,14 @@ pub fn number_data(n: u32) -> Data
 pub fn read_packet(packet: &[u8]) -> Packet
     ensures { λ r. ⌜ r ≡ readOf (now (packet .entry)) ⌝ }
 {
-    tell(look_inside(packet))
+    tell(look_inside(packet, AROUND_DATA, framed(packet)))
 }
 
 // The same of a slice that is exactly one packet of the OEM framing.
 pub fn read_oem_packet(packet: &[u8]) -> Packet
     ensures { λ r. ⌜ r ≡ readOemOf (now (packet .entry)) ⌝ }
 {
-    tell(look_inside_oem(packet))
+    tell(look_inside(packet, AROUND_OEM, oem_framed(packet)))
 }
 
 // What the host is told of what stands within a packet.
@@ -190,13 +188,14 @@ fn tell(inside: Inside) -> Packet
     }
 }
 
-// The status and the number of data bytes of a slice that is exactly one packet.
-fn look_inside(packet: &[u8]) -> Inside
-    ensures { λ r. ⌜ r ≡ insideOf (now (packet .entry)) ⌝ }
+// The status and the number of data bytes of a slice that is exactly one packet of a framing: with so many bytes around the data, and framed or not.
+fn look_inside(packet: &[u8], around: usize, framed: bool) -> Inside
+    requires { ⌜ Roomy framed around (now packet) ⌝ }
+    ensures { λ r. ⌜ r ≡ insideBy framed around (now (packet .entry)) ⌝ }
 {
-    if framed(packet) {
+    if framed {
         let status = packet[STATUS_AT];
-        let n = packet.len() - AROUND_DATA;
+        let n = packet.len() - around;
         if good_status(status) {
             if good_data(&packet[DATA_AT..DATA_AT + n]) {
                 return Inside::StatusData(status, n);
@@ -227,22 +226,6 @@ fn framed(packet: &[u8]) -> bool
         return false;
     }
     packet[end + 2] == LINE_FEED
-}
-
-// The status and the number of data bytes of a slice that is exactly one OEM packet.
-fn look_inside_oem(packet: &[u8]) -> Inside
-    ensures { λ r. ⌜ r ≡ oemInsideOf (now (packet .entry)) ⌝ }
-{
-    if oem_framed(packet) {
-        let status = packet[STATUS_AT];
-        let n = packet.len() - AROUND_OEM;
-        if good_status(status) {
-            if good_data(&packet[DATA_AT..DATA_AT + n]) {
-                return Inside::StatusData(status, n);
-            }
-        }
-    }
-    Inside::Neither
 }
 
 // Whether a slice begins and ends as an OEM packet does, with the right checksum and room for the status between.

@@ -1,9 +1,10 @@
 // The operations that need no unit: `line`, `text`, `read`, `count`, `ramp`, `write`.
 use crate::fields;
+use crate::forms;
+use crate::forms::Task;
 use crate::list;
-use crate::operation::Judge;
-use crate::state;
 use crate::telling;
+use crate::telling::Answer;
 use answers::Found;
 use answers::Packet;
 use commands::Fault;
@@ -13,102 +14,98 @@ use lines::Slot;
 use ramp::Figures;
 use ramp::Verdict;
 
-// `line HEX`, `text HEX`, `read HEX`, `count HEX`
-pub(crate) fn judge(as_what: Judge, line: &[u8], at: usize, out: &mut [u8]) -> usize {
-    let mut bytes = [0u8; state::LINE_BYTES];
-    let n = fields::read_bytes(line, at, &mut bytes);
-    judge_bytes(as_what, &bytes[0..n], out)
-}
-
-// What the library says of bytes.
-fn judge_bytes(as_what: Judge, bytes: &[u8], out: &mut [u8]) -> usize {
-    match as_what {
-        Judge::Line => tell_fault(lines::check_line(bytes), b"line ", out),
-        Judge::Text => tell_text(lines::check_text(bytes), out),
-        Judge::Packet => tell_packet(bytes, out),
-        Judge::Count => tell_count(forecast::count(bytes), out),
+// The answer to an operation that leaves the unit as it is.
+pub(crate) fn ask(t: Task, given: &[u8], image_bytes: u64, buffer: &mut [u8]) -> Answer {
+    let row = t.row;
+    match row {
+        forms::LINE => tell_fault(forms::LINE, 0, lines::check_line(given)),
+        forms::TEXT => telling::said(forms::TEXT, lines::check_text(given) as u64, 0, 0, 0),
+        forms::READ => tell_packet(read_either(given)),
+        forms::COUNT => tell_count(forecast::count(given)),
+        forms::WRITE => write(t, given, buffer),
+        _ => ask_plain(t, image_bytes),
     }
 }
 
-// The code of a body behind a word, and the place of its fault where it has one.
-fn tell_fault(fault: Fault, word: &[u8], out: &mut [u8]) -> usize {
-    let at = telling::add_number(out, 0, word, fault.code as u64);
-    if fault.place == 0 {
-        return at;
+// The same where no bytes are given: `ramp`, and what only tells of bytes.
+fn ask_plain(t: Task, image_bytes: u64) -> Answer {
+    let row = t.row;
+    match row {
+        forms::RAMP => tell_ramp(t, false),
+        forms::ENDLESS => tell_ramp(t, true),
+        telling::REASON => telling::said_of(telling::REASON, t.a, 0, 0, 0, t.at, 0),
+        forms::ROOM => telling::said(forms::ROOM, t.c, 0, 0, 0),
+        _ => telling::said_of(t.row, image_bytes, 0, 0, 0, 0, usize::MAX),
     }
-    telling::add_number(out, at, b" ", fault.place as u64)
 }
 
-// Whether a text may be stored.
-fn tell_text(good: bool, out: &mut [u8]) -> usize {
-    if good {
-        return telling::add(out, 0, b"text ok");
-    }
-    telling::add(out, 0, b"text bad")
+// A code, and the place of the fault where it has one.
+fn tell_fault(row: usize, k: u64, fault: Fault) -> Answer {
+    telling::said(
+        row,
+        k,
+        fault.code as u64,
+        (fault.place != 0) as u64,
+        fault.place as u64,
+    )
 }
 
 // Status and data of a packet.
-fn tell_packet(bytes: &[u8], out: &mut [u8]) -> usize {
-    let p = read_either(bytes);
+fn tell_packet(p: Packet) -> Answer {
     let found = p.found;
     let Found::OnePacket = found else {
-        return telling::add(out, 0, b"refused packet");
+        return telling::said(forms::READ, 1, 0, 0, 0);
     };
-    let at = telling::add(out, 0, b"packet ");
-    let next = telling::add_hex(out, at, p.status as u64, 2);
-    telling::add_bytes(out, next, b" ", fields::part(bytes, p.at, p.length))
-}
-
-// How many commands a run takes, or why that is not said.
-fn tell_count(counted: Counted, out: &mut [u8]) -> usize {
-    match counted {
-        Counted::Commands(n) => telling::add_number(out, 0, b"count ", n),
-        Counted::Refused(f) => tell_fault(f, b"refused ", out),
-        Counted::Letter => telling::add(out, 0, b"refused letter"),
-        Counted::TooMany => telling::add(out, 0, b"refused count"),
-    }
+    telling::said_of(forms::READ, 0, p.status as u64, 0, 0, p.at, p.length)
 }
 
 // A packet read, in the OEM framing where it begins with 02.
 pub(crate) fn read_either(bytes: &[u8]) -> Packet {
-    if bytes.len() == 0 {
-        return answers::read_packet(bytes);
-    }
-    if bytes[0] == 2 {
+    if fields::byte_at(bytes, 0) == 2 {
         return answers::read_oem_packet(bytes);
     }
     answers::read_packet(bytes)
 }
 
-// `ramp V L N`, `ramp V L endless`
-pub(crate) fn tell_ramp(f: Figures, out: &mut [u8]) -> usize {
+// How many commands a run takes, or why that is not said.
+fn tell_count(counted: Counted) -> Answer {
+    match counted {
+        Counted::Commands(n) => telling::said(forms::COUNT, 0, n, 0, 0),
+        Counted::Letter => telling::said(forms::COUNT, 1, 0, 0, 0),
+        Counted::TooMany => telling::said(forms::COUNT, 2, 0, 0, 0),
+        Counted::Refused(f) => tell_fault(forms::COUNT, 3, f),
+    }
+}
+
+// `ramp V L N`, `ramp V L endless`: peak and distance, and the bits of three floats.
+fn tell_ramp(t: Task, endless: bool) -> Answer {
+    let f = ramp::ramp(
+        fields::narrow(t.a),
+        fields::narrow(t.b),
+        endless,
+        fields::narrow(t.c),
+    );
     let verdict = f.verdict;
-    let k = match verdict {
+    let r = f.floats;
+    let mut answer = telling::said(
+        forms::RAMP,
+        verdict_of(verdict),
+        f.peak as u64,
+        f.distance,
+        bits_of(r.speed),
+    );
+    answer.numbers[4] = bits_of(r.acceleration);
+    answer.numbers[5] = bits_of(r.time);
+    answer
+}
+
+fn verdict_of(verdict: Verdict) -> u64 {
+    match verdict {
         Verdict::Taken => 0,
         Verdict::RefusedV => 1,
         Verdict::RefusedL => 2,
         Verdict::RefusedN => 3,
-    };
-    if k == 0 {
-        return tell_figures(f, out);
     }
-    telling::add_nth(out, 0, b"|refused V|refused L|refused N", k)
-}
-
-// Peak and distance in decimal, each float as its bits.
-fn tell_figures(f: Figures, out: &mut [u8]) -> usize {
-    let r = f.floats;
-    let mut at = telling::add_number(out, 0, b"ramp ", f.peak as u64);
-    at = telling::add_number(out, at, b" ", f.distance);
-    at = add_float(out, at, r.speed);
-    at = add_float(out, at, r.acceleration);
-    add_float(out, at, r.time)
-}
-
-// Adds a space and the bits of a float.
-fn add_float(out: &mut [u8], at: usize, x: f64) -> usize {
-    let next = telling::add(out, at, b" ");
-    telling::add_hex(out, next, bits_of(x), 16)
 }
 
 // The bits of a float; of every not-a-number those of one.
@@ -120,29 +117,25 @@ fn bits_of(x: f64) -> u64 {
     }
 }
 
-// `write SLOT RUN LIST`, with the list from a place on
-pub(crate) fn write(
-    slot: Slot,
-    run: bool,
-    line: &[u8],
-    at: usize,
-    count: usize,
-    buffer: &mut [u8],
-    out: &mut [u8],
-) -> usize {
-    let commands = list::list_of(line, at);
-    let written = host::write_line(slot, commands, count, run, buffer);
-    tell_written(written, buffer, out)
+// `write SLOT RUN LIST`
+fn write(t: Task, list: &[u8], buffer: &mut [u8]) -> Answer {
+    let commands = list::list_of(list);
+    tell_written(host::write_line(slot_of(t.a), commands, t.c as usize, t.b == 1, buffer))
+}
+
+// The slot of a field.
+fn slot_of(value: u64) -> Slot {
+    if value == 0 {
+        return Slot::NoSlot;
+    }
+    Slot::Into(fields::narrow(value - 1))
 }
 
 // What came of writing a line.
-fn tell_written(written: LineWritten, buffer: &[u8], out: &mut [u8]) -> usize {
+fn tell_written(written: LineWritten) -> Answer {
     match written {
-        LineWritten::Bytes(n) => {
-            let count = fields::up_to(n, buffer);
-            telling::add_bytes(out, 0, b"wrote ", &buffer[0..count])
-        }
-        LineWritten::Refused(f) => tell_fault(f, b"refused ", out),
-        LineWritten::NoRoom => telling::add(out, 0, b"refused buffer"),
+        LineWritten::Bytes(n) => telling::said_of(forms::WRITE, 0, 0, 0, 0, 0, n),
+        LineWritten::NoRoom => telling::said(forms::WRITE, 1, 0, 0, 0),
+        LineWritten::Refused(f) => tell_fault(forms::WRITE, 2, f),
     }
 }

@@ -1,12 +1,14 @@
 // Turns made one after another, each reporting all its steps: `run`, and `timeline`, which tells each of them.
 use crate::fields;
-use crate::state::Bench;
-use crate::state::Said;
+use crate::forms;
+use crate::forms::Task;
+use crate::state;
+use crate::state::Done;
 use crate::telling;
 use crate::unit;
-use crate::unit::Stand;
-use crate::unit::Waited;
-use libc::STDOUT_FILENO;
+use drive::Record;
+use motor::Motor;
+use motor::Wait;
 use turns::Action;
 
 // The most turns of one run.
@@ -15,174 +17,219 @@ const MOST_TURNS: u32 = 100_000;
 // All four inputs high: the greatest sample that a turn takes.
 const SAMPLE_MOST: u8 = 15;
 
-// Room for the line of a turn: a command as it was typed has at most 256 bytes.
-const LINE_BYTES: usize = 512;
+// How a run of turns ends: the unit is idle, or waits, or is still busy; or it was refused.
+const IDLE: u64 = 0;
 
-// The bench after some turns.
+const WAITS: u64 = 1;
+
+const BUSY: u64 = 2;
+
+const IMAGE_LENGTH: u64 = 3;
+
+const SAMPLE: u64 = 4;
+
+// The unit after some turns.
 struct Ran {
-    bench: Bench,
+    unit: Record,
     turns: u32,
 }
 
-// `run SAMPLE MS`, `timeline SAMPLE MS`
-pub(crate) fn run(b: Bench, sample: u8, ms: u32, told: bool, image: &[u8], out: &mut [u8]) -> Said {
-    if !image::is_right_length(image) {
-        return Said {
-            bench: b,
-            length: telling::add(out, 0, b"refused image-length"),
-        };
+// `run SAMPLE MS`, `timeline SAMPLE MS`; where that is refused no turn is made.
+pub(crate) fn run(u: Record, t: Task, text: &mut [u8; state::TEXT_BYTES], image: &[u8]) -> Done {
+    let sample = fields::byte_of(t.b);
+    let refusal = refusal_of(image::is_right_length(image), sample);
+    let ran = make_turns(u, most_turns(refusal), t, sample, text, image);
+    let v = ran.unit;
+    let c = v.core;
+    Done {
+        unit: v,
+        answer: telling::said(
+            forms::RUN,
+            end_of(v, sample, refusal),
+            ran.turns as u64,
+            c.code as u64,
+            0,
+        ),
     }
-    if SAMPLE_MOST < sample {
-        return Said {
-            bench: b,
-            length: telling::add(out, 0, b"refused sample"),
-        };
+}
+
+// Why turns are refused; IDLE where they are not.
+fn refusal_of(is_right_length: bool, sample: u8) -> u64 {
+    if !is_right_length {
+        return IMAGE_LENGTH;
     }
-    let ran = make_turns(b, sample, ms, told, image);
-    let c = ran.bench;
-    Said {
-        bench: c,
-        length: tell_end(unit::standing(c), ran.turns, sample, out),
-    }
+    if SAMPLE_MOST < sample { SAMPLE } else { IDLE }
+}
+
+fn most_turns(refusal: u64) -> u32 {
+    if refusal == IDLE { MOST_TURNS } else { 0 }
 }
 
 // Makes turns until the unit has ended or waits.
-fn make_turns(b: Bench, sample: u8, ms: u32, told: bool, image: &[u8]) -> Ran {
-    let mut now = b;
-    for n in 0..MOST_TURNS {
-        let s = unit::standing(now);
-        if !goes_on(s, sample) {
+fn make_turns(
+    u: Record,
+    most: u32,
+    t: Task,
+    sample: u8,
+    text: &mut [u8; state::TEXT_BYTES],
+    image: &[u8],
+) -> Ran {
+    let mut now = u;
+    for n in 0..most {
+        if !goes_on(now, sample) {
             return Ran {
-                bench: now,
+                unit: now,
                 turns: n,
             };
         }
-        now = make_turn(now, s, n + 1, sample, ms, told, image);
+        now = make_turn(now, n, t, sample, text, image);
     }
     Ran {
-        bench: now,
-        turns: MOST_TURNS,
+        unit: now,
+        turns: most,
     }
+}
+
+// How turns have ended.
+fn end_of(u: Record, sample: u8, refusal: u64) -> u64 {
+    let c = u.core;
+    if refusal != IDLE {
+        return refusal;
+    }
+    if !c.running {
+        return IDLE;
+    }
+    if goes_on(u, sample) { BUSY } else { WAITS }
 }
 
 // Whether a unit runs and waits for no input that the sample does not have.
-fn goes_on(s: Stand, sample: u8) -> bool {
-    if !s.running {
+fn goes_on(u: Record, sample: u8) -> bool {
+    let c = u.core;
+    let m = c.motor;
+    let wait = m.wait;
+    if !c.running {
         return false;
     }
-    let w = s.wait;
-    !is_kept(w, sample)
+    let Wait::Input(digits) = wait else {
+        return true;
+    };
+    motor::level_there(digits, sample)
 }
 
-// Whether an input is waited for that the sample does not have.
-fn is_kept(w: Waited, sample: u8) -> bool {
-    if w.what != unit::INPUT {
-        return false;
+// The turn behind n others, told where that is asked for.
+fn make_turn(
+    u: Record,
+    n: u32,
+    t: Task,
+    sample: u8,
+    text: &mut [u8; state::TEXT_BYTES],
+    image: &[u8],
+) -> Record {
+    let c = u.core;
+    let m = c.motor;
+    let last = m.last;
+    let before = *text;
+    let turned = drive::turn(u, text, sample, fields::narrow(t.c), last.number, image);
+    let v = turned.unit;
+    if t.row == forms::TIMELINE {
+        tell_turn(u, before, n, v, turned.action);
     }
-    bit_of(sample, w.number % 10) != w.number / 10
-}
-
-// The level of an input in a sample.
-fn bit_of(sample: u8, input: u32) -> u32 {
-    let s = sample as u32;
-    match input {
-        1 => s % 2,
-        2 => s / 2 % 2,
-        3 => s / 4 % 2,
-        _ => s / 8 % 2,
-    }
-}
-
-// The turn of this number, told where that is asked for.
-fn make_turn(b: Bench, s: Stand, n: u32, sample: u8, ms: u32, told: bool, image: &[u8]) -> Bench {
-    let t = unit::take_turn(b, sample, ms, s.steps, image);
-    let c = t.bench;
-    let action = t.action;
-    if told {
-        tell_turn(b, s, n, unit::standing(c), action);
-    }
-    c
+    v
 }
 
 // Writes the line of a turn: its number, the place in the text, the command taken, then what it leaves.
-fn tell_turn(b: Bench, s: Stand, n: u32, left: Stand, action: Action) {
-    let mut out = [0u8; LINE_BYTES];
-    let mut at = telling::add_number(&mut out, 0, b"turn ", n as u64);
-    at = telling::add_number(&mut out, at, b": at ", place_of(s.at));
-    at = telling::add(&mut out, at, b" ");
-    let w = s.wait;
-    at = add_taken(b, w, s.at, &mut out, at);
-    at = add_left(left, &mut out, at);
-    at = unit::tell_action(action, at, &mut out);
-    at = telling::add(&mut out, at, b"\n");
-    let count = fields::up_to(at, &out);
-    io::write_all(STDOUT_FILENO, &out[0..count]);
-}
-
-// A place as it is told, from 1 on.
-fn place_of(at: usize) -> u64 {
-    let place = at as u64;
-    if place < u64::MAX { place + 1 } else { place }
-}
-
-// Adds the command that a turn takes: `-` where it serves a wait, `end` where none is left.
-fn add_taken(b: Bench, w: Waited, place: usize, out: &mut [u8], at: usize) -> usize {
-    if w.what != unit::NOTHING {
-        return telling::add(out, at, b"-");
-    }
-    let next = unit::add_command(b, place, out, at);
-    if next == at {
-        return telling::add(out, at, b"end");
-    }
-    next
-}
-
-// Adds position and wait.
-fn add_left(s: Stand, out: &mut [u8], at: usize) -> usize {
-    let mut next = telling::add_number(out, at, b", position ", s.position as u64);
-    next = add_doubt(s.known, out, next);
-    next = telling::add(out, next, b", wait ");
-    let w = s.wait;
-    next = add_wait(w, out, next);
-    telling::add(out, next, b", ")
-}
-
-// Adds a `?` where the position is unknown.
-fn add_doubt(known: bool, out: &mut [u8], at: usize) -> usize {
-    if known {
-        return at;
-    }
-    telling::add(out, at, b"?")
-}
-
-// Adds what is waited for, and what is left of it; of an input the level and the input.
-fn add_wait(w: Waited, out: &mut [u8], at: usize) -> usize {
-    let n = w.number as u64;
-    let what = w.what;
-    let next = telling::add_nth(
-        out,
-        at,
-        b"none|move |endless |away |toward |delay |input ",
-        what,
+fn tell_turn(u: Record, text: [u8; state::TEXT_BYTES], n: u32, v: Record, action: Action) {
+    let c = u.core;
+    let f = c.flow;
+    let command = fields::command_at(parts::first(&text, f.length), f.at);
+    let d = v.core;
+    let numbers = numbers_of(
+        next(n as u64),
+        next(f.at as u64),
+        taken(c.motor, command.len()),
+        d.motor,
+        action,
     );
-    if what == unit::NOTHING {
-        return next;
-    }
-    if what == unit::INPUT {
-        let level = telling::add_number(out, next, b"", n / 10);
-        return telling::add_number(out, level, b"", n % 10);
-    }
-    telling::add_number(out, next, b"", n)
+    telling::print(telling::TURN_LINE, numbers, command);
 }
 
-// How many turns were made, and how that ended.
-fn tell_end(s: Stand, turns: u32, sample: u8, out: &mut [u8]) -> usize {
-    let at = telling::add_number(out, 0, b"ran ", turns as u64);
-    if !s.running {
-        return telling::add_number(out, at, b" idle ", s.code as u64);
+// Which command a turn takes: 0 where none is left, 1 where it serves a wait, else 2.
+fn taken(m: Motor, length: usize) -> u64 {
+    let wait = m.wait;
+    let Wait::Nothing = wait else {
+        return 1;
+    };
+    if length == 0 { 0 } else { 2 }
+}
+
+// Turns and places are told from 1 on.
+fn next(n: u64) -> u64 {
+    if n < u64::MAX { n + 1 } else { n }
+}
+
+// The numbers of a turn's line, in the order of its row; nine are left over.
+fn numbers_of(
+    n: u64,
+    at: u64,
+    taken: u64,
+    m: Motor,
+    action: Action,
+) -> [u64; telling::MOST_NUMBERS] {
+    let direction = action.direction;
+    let wait = m.wait;
+    let known = m.known as u64;
+    [
+        n,
+        at,
+        taken,
+        m.position as u64,
+        known,
+        wait_code(wait),
+        wait_left(wait),
+        unit::direction_code(direction),
+        action.number as u64,
+        0,
+        0,
+        0,
+        0,
+        0,
+        0,
+        0,
+        0,
+        0,
+    ]
+}
+
+// What a run waits for, as `timeline` names it.
+fn wait_code(wait: Wait) -> u64 {
+    match wait {
+        Wait::Nothing => 0,
+        Wait::Move { up, endless, left } => move_code(endless),
+        Wait::LegAway { left, span } => 3,
+        Wait::LegToward(left) => 4,
+        Wait::Delay(left) => 5,
+        Wait::Input(digits) => 6,
     }
-    if goes_on(s, sample) {
-        return telling::add(out, at, b" busy");
+}
+
+fn move_code(endless: bool) -> u64 {
+    if endless { 2 } else { 1 }
+}
+
+// What is left of it; of an input its two digits.
+fn wait_left(wait: Wait) -> u64 {
+    match wait {
+        Wait::Nothing => 0,
+        Wait::Move { up, endless, left } => left as u64,
+        Wait::LegAway { left, span } => left as u64,
+        Wait::LegToward(left) => left as u64,
+        Wait::Delay(left) => left as u64,
+        Wait::Input(digits) => two_digits(digits),
     }
-    telling::add(out, at, b" waits")
+}
+
+// Of a number below 100 the one whose hex digits are its digits.
+fn two_digits(n: u32) -> u64 {
+    let digits = (n % 100) as u64;
+    digits / 10 * 16 + digits % 10
 }

@@ -1,85 +1,76 @@
-// The fields of an operation: numbers, one byte, bytes in hex.
+// The fields of a line, parted by single spaces: where they are, and what each kind of field reads as.
 ghost use Prim.Native.Nat.{_≤_, _<_};
 ghost use lib.ListN.{length};
 use digits::Operand;
 
-// A field that is a number.
-pub(crate) enum Number {
-    // The number, and the place of the next field.
-    More(u32, usize),
-    // The number of the last field.
-    Last(u32),
-    Unreadable,
+// What ends a line.
+pub(crate) const LF: u8 = 10;
+
+// What a field reads as, and what is wrong with it.
+pub(crate) struct Reading {
+    pub(crate) fault: usize,
+    pub(crate) value: u64,
 }
 
-// The number of the field at a place.
-pub(crate) fn number_at(s: &[u8], at: usize) -> Number {
-    let operand = digits::read_operand(s, at);
-    let Operand::Number(n, end) = operand else {
-        return Number::Unreadable;
-    };
-    ended(s, end, n)
+// What can be wrong with a field, in the order of the words for it.
+pub(crate) const NO_ROW: usize = 0;
+
+pub(crate) const TOO_MANY: usize = 1;
+
+pub(crate) const TOO_GREAT: usize = 2;
+
+pub(crate) const MISSING: usize = 3;
+
+pub(crate) const NO_NUMBER: usize = 4;
+
+const ODD_HEX: usize = 5;
+
+const NO_HEX: usize = 6;
+
+const NO_RUN: usize = 7;
+
+pub(crate) const NO_LIST: usize = 8;
+
+// Nothing is wrong: others may follow, or this was the last one, or none was left.
+pub(crate) const FINE: usize = 9;
+
+pub(crate) const LAST: usize = 10;
+
+pub(crate) const ENDED: usize = 11;
+
+// The byte at a place; past the end LF.
+pub(crate) fn byte_at(s: &[u8], at: usize) -> u8 {
+    if at < s.len() { s[at] } else { LF }
 }
 
-// The number of the field at a place, which has exactly two digits.
-pub(crate) fn pair_at(s: &[u8], at: usize) -> Number {
+// The place behind the next such byte from a place on; one past all bytes where there is none.
+pub(crate) fn past(s: &[u8], at: usize, byte: u8) -> usize {
     if s.len() < at {
-        return Number::Unreadable;
+        return usize::MAX;
     }
-    if s.len() - at < 2 {
-        return Number::Unreadable;
-    }
-    let operand = digits::read_operand(s, at);
-    let Operand::Number(n, end) = operand else {
-        return Number::Unreadable;
-    };
-    if end != at + 2 {
-        return Number::Unreadable;
-    }
-    ended(s, end, n)
+    let end = bytes::scan::find(s, at, s.len(), byte);
+    if end < s.len() { end + 1 } else { usize::MAX }
 }
 
-// The byte of the field at a place, which has exactly two hex digits.
-pub(crate) fn hex_at(s: &[u8], at: usize) -> Number {
-    if s.len() < at {
-        return Number::Unreadable;
+// The place behind the n-th such byte.
+pub(crate) fn past_nth(s: &[u8], from: usize, n: usize, byte: u8) -> usize {
+    let mut at = from;
+    for _ in 0..n {
+        at = past(s, at, byte);
     }
-    if s.len() - at < 2 {
-        return Number::Unreadable;
-    }
-    if !are_digits(&s[at..at + 2]) {
-        return Number::Unreadable;
-    }
-    let high = value(s[at]);
-    let low = value(s[at + 1]);
-    ended(s, at + 2, (high * 16 + low) as u32)
+    at
 }
 
-// 0 where the field at a place is this byte.
-pub(crate) fn byte_at(s: &[u8], at: usize, byte: u8) -> Number {
-    if s.len() <= at {
-        return Number::Unreadable;
-    }
-    if s[at] != byte {
-        return Number::Unreadable;
-    }
-    ended(s, at + 1, 0)
+// The place of the field behind the one at a place.
+pub(crate) fn past_field(s: &[u8], at: usize) -> usize {
+    past(s, at, b' ')
 }
 
-// 0 where the field at a place is `-`.
-pub(crate) fn dash_at(s: &[u8], at: usize) -> Number {
-    byte_at(s, at, b'-')
-}
-
-// The number of a field that ends at a place.
-fn ended(s: &[u8], end: usize, n: u32) -> Number {
-    if s.len() <= end {
-        return Number::Last(n);
-    }
-    if s[end] == b' ' {
-        return Number::More(n, end + 1);
-    }
-    Number::Unreadable
+// The field at a place.
+pub(crate) fn field_at(s: &[u8], at: usize) -> &[u8] {
+    let t = rest(s, at);
+    let end = bytes::scan::find(t, 0, t.len(), b' ');
+    &t[0..end]
 }
 
 // What stands from a place on.
@@ -90,43 +81,6 @@ pub(crate) fn rest(s: &[u8], at: usize) -> &[u8] {
     &s[at..]
 }
 
-// n bytes from a place on; none where there are fewer.
-pub(crate) fn part(s: &[u8], at: usize, n: usize) -> &[u8] {
-    if s.len() < at {
-        return &s[0..0];
-    }
-    if s.len() - at < n {
-        return &s[0..0];
-    }
-    &s[at..at + n]
-}
-
-// The command at a place of a text that was checked, as it was typed; nothing where none is left.
-pub(crate) fn command_at(text: &[u8], at: usize) -> &[u8] {
-    let end = command_end(text, at);
-    if end <= at {
-        return &text[0..0];
-    }
-    part(text, at, end - at)
-}
-
-// The place past the command at a place.
-fn command_end(text: &[u8], at: usize) -> usize {
-    if text.len() <= at {
-        return at;
-    }
-    let after = at + 1;
-    if text[at] == b'g' {
-        return after;
-    }
-    let operand = digits::read_operand(text, after);
-    match operand {
-        Operand::Missing => after,
-        Operand::Number(_, end) => end,
-        Operand::Above(end) => end,
-    }
-}
-
 // n, but not more than the bytes there are.
 pub(crate) fn up_to(n: usize, bytes: &[u8]) -> usize
     ensures { λ r. ⌜ (r ≤ n) × (r ≤ length (now (bytes .entry))) ⌝ }
@@ -134,19 +88,128 @@ pub(crate) fn up_to(n: usize, bytes: &[u8]) -> usize
     if bytes.len() < n { bytes.len() } else { n }
 }
 
-// Whether what stands from a place on is bytes: `-`, or hex digits, two a byte.
-pub(crate) fn is_bytes(line: &[u8], at: usize) -> bool {
-    let s = rest(line, at);
-    if s.len() == 1 {
-        return s[0] == b'-';
+// A field that is what it should be.
+pub(crate) fn fine(value: u64) -> Reading {
+    read_as(FINE, value)
+}
+
+// A field that is not.
+pub(crate) fn wrong(fault: usize) -> Reading {
+    read_as(fault, 0)
+}
+
+pub(crate) fn read_as(fault: usize, value: u64) -> Reading {
+    Reading {
+        fault: fault,
+        value: value,
     }
-    if s.len() == 0 {
+}
+
+// A number.
+pub(crate) fn number(field: &[u8]) -> Reading {
+    let operand = digits::read_operand(field, 0);
+    match operand {
+        Operand::Missing => wrong(NO_NUMBER),
+        Operand::Number(n, end) => ended(field.len(), end, FINE, n as u64),
+        Operand::Above(end) => ended(field.len(), end, TOO_GREAT, 0),
+    }
+}
+
+// The same, where the digits end at a place.
+fn ended(length: usize, end: usize, fault: usize, n: u64) -> Reading {
+    if end == length {
+        return read_as(fault, n);
+    }
+    wrong(NO_NUMBER)
+}
+
+// A number that a field reads as has at most 32 bits.
+pub(crate) fn narrow(n: u64) -> u32 {
+    (n % 4294967296) as u32
+}
+
+// A number that is a byte.
+pub(crate) fn byte_of(n: u64) -> u8 {
+    (n % 256) as u8
+}
+
+// A number of exactly two digits.
+pub(crate) fn pair(field: &[u8]) -> Reading {
+    if field.len() != 2 {
+        return wrong(NO_NUMBER);
+    }
+    number(field)
+}
+
+// `-`
+fn is_dash(field: &[u8]) -> bool {
+    if field.len() != 1 {
         return false;
     }
-    if s.len() % 2 == 1 {
-        return false;
+    field[0] == b'-'
+}
+
+// `-` and nothing else.
+pub(crate) fn none(field: &[u8]) -> Reading {
+    if is_dash(field) {
+        fine(0)
+    } else {
+        wrong(MISSING)
     }
-    are_digits(s)
+}
+
+// A slot, 1 more than its number; 0 for `-`.
+pub(crate) fn slot(field: &[u8]) -> Reading {
+    if is_dash(field) {
+        return fine(0);
+    }
+    let n = number(field);
+    read_as(n.fault, more(n.value))
+}
+
+fn more(n: u64) -> u64 {
+    if n < u64::MAX { n + 1 } else { n }
+}
+
+// 1 for `R`, 0 for `-`.
+pub(crate) fn run(field: &[u8]) -> Reading {
+    if is_dash(field) {
+        return fine(0);
+    }
+    if field.len() != 1 {
+        return wrong(NO_RUN);
+    }
+    if field[0] == b'R' {
+        fine(1)
+    } else {
+        wrong(NO_RUN)
+    }
+}
+
+// Bytes: `-`, or hex digits, two a byte. How many characters.
+pub(crate) fn hex(field: &[u8]) -> Reading {
+    if is_dash(field) {
+        return fine(1);
+    }
+    if field.len() % 2 == 1 {
+        return wrong(ODD_HEX);
+    }
+    if are_digits(field) {
+        return fine(field.len() as u64);
+    }
+    wrong(NO_HEX)
+}
+
+// A byte of two hex digits.
+pub(crate) fn sequence(field: &[u8]) -> Reading {
+    if field.len() != 2 {
+        return wrong(NO_HEX);
+    }
+    if !are_digits(field) {
+        return wrong(NO_HEX);
+    }
+    let byte = value(field[0]) * 16 + value(field[1]);
+    fine(byte as u64)
 }
 
 // Whether all bytes are hex digits.
@@ -157,18 +220,6 @@ fn are_digits(s: &[u8]) -> bool {
         }
     }
     true
-}
-
-// Puts the bytes that stand from a place on at the front of an array, as far as it goes: how many.
-pub(crate) fn read_bytes(line: &[u8], at: usize, bytes: &mut [u8]) -> usize
-    ensures { λ r. ⌜ r ≤ length (now (bytes .exit)) ⌝ }
-{
-    let s = rest(line, at);
-    let n = up_to(s.len() / 2, bytes);
-    for i in 0..n {
-        bytes[i] = value(s[2 * i]) * 16 + value(s[2 * i + 1]);
-    }
-    n
 }
 
 // Whether a byte is a hex digit.
@@ -190,5 +241,40 @@ fn value(b: u8) -> u8
         b'a'..=b'f' => b - b'a' + 10,
         b'A'..=b'F' => b - b'A' + 10,
         _ => 0,
+    }
+}
+
+// Puts the bytes that hex digits tell in the place of the digits: how many.
+pub(crate) fn decode(s: &mut [u8]) -> usize {
+    let n = s.len() / 2;
+    for i in 0..n {
+        s[i] = value(s[2 * i]) * 16 + value(s[2 * i + 1]);
+    }
+    n
+}
+
+// The command at a place of a text that was checked, as it was typed; nothing where none is left.
+pub(crate) fn command_at(text: &[u8], at: usize) -> &[u8] {
+    let end = command_end(text, at);
+    if end <= at {
+        return &text[0..0];
+    }
+    parts::part(text, at, end - at)
+}
+
+// The place past the command at a place.
+fn command_end(text: &[u8], at: usize) -> usize {
+    if text.len() <= at {
+        return at;
+    }
+    let after = at + 1;
+    if text[at] == b'g' {
+        return after;
+    }
+    let operand = digits::read_operand(text, after);
+    match operand {
+        Operand::Missing => after,
+        Operand::Number(_, end) => end,
+        Operand::Above(end) => end,
     }
 }

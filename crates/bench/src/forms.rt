@@ -1,10 +1,13 @@
-// The operations as one table, a row each: the form, a `:`, what it is for. Help is the table, and what is wrong with a line is
-// told in the words of its form.
+// The operations as one table, a row each: the form, a `:`, what it is for. Help is the table, a line is read field by field against
+// its form, and what is wrong with it is told in the words of the form.
 use crate::fields;
+use crate::fields::LF;
+use crate::fields::Reading;
+use crate::list;
+use crate::state;
 use crate::telling;
-use digits::Operand;
 
-// The most fields of a form.
+// The most fields of a form, with the `:` behind them.
 const MOST_FIELDS: usize = 4;
 
 // The rows, and the bytes of the table.
@@ -12,7 +15,7 @@ const ROWS: usize = 21;
 
 const TABLE_BYTES: usize = 897;
 
-const TABLE: [u8; TABLE_BYTES] = *b"image HEX : lend these bytes as the image
+pub(crate) const TABLE: [u8; TABLE_BYTES] = *b"image HEX : lend these bytes as the image
 image empty : lend the image with all slots empty
 room N : lend an answer buffer of N bytes, each a5
 buffer : tell the answer buffer
@@ -34,271 +37,268 @@ count HEX : count the commands of a body's run
 /... : feed a line as it is typed, with a CR
 help : tell the operations";
 
-// The first fault that is one of a field.
-const FIRST_NAMED: usize = 3;
+pub(crate) const IMAGE: usize = 0;
 
-// A row: its number from 0 on, that of no row where there is none, and where it begins.
-pub(crate) struct Row {
-    pub(crate) number: usize,
-    at: usize,
+pub(crate) const EMPTY: usize = 1;
+
+pub(crate) const ROOM: usize = 2;
+
+pub(crate) const START: usize = 4;
+
+pub(crate) const FEED: usize = 5;
+
+pub(crate) const TURN: usize = 6;
+
+pub(crate) const RUN: usize = 7;
+
+pub(crate) const TIMELINE: usize = 8;
+
+pub(crate) const UNIT: usize = 9;
+
+pub(crate) const STORE: usize = 10;
+
+pub(crate) const LINE: usize = 11;
+
+pub(crate) const TEXT: usize = 12;
+
+pub(crate) const RAMP: usize = 13;
+
+pub(crate) const ENDLESS: usize = 14;
+
+pub(crate) const WRITE: usize = 15;
+
+pub(crate) const READ: usize = 16;
+
+pub(crate) const OEM: usize = 17;
+
+pub(crate) const COUNT: usize = 18;
+
+pub(crate) const TYPED: usize = 19;
+
+pub(crate) const HELP: usize = 20;
+
+// The names of fields that are no numbers, and the end of a form.
+const KINDS: [u8; 35] = *b"HEX \nRUN \nSLOT \nSEQ \nTEXT \nLIST \n: ";
+
+const KIND_TEXT: usize = 4;
+
+const KIND_LIST: usize = 5;
+
+const KIND_END: usize = 6;
+
+// The greatest unit number and the greatest sample.
+const BYTE_MOST: u64 = 255;
+
+// What a line asks for.
+pub(crate) struct Task {
+    // The row of its form; that of a reason where it is none of the operations.
+    pub(crate) row: usize,
+    // What the last three fields read as; of a reason the first is what is wrong.
+    pub(crate) a: u64,
+    pub(crate) b: u64,
+    pub(crate) c: u64,
+    // Where the last field begins; of a reason where the name of the field stands in the table.
+    pub(crate) at: usize,
+    // What is wrong with the last field, where its name stands in the table, and whether a number before it has over 32 bits.
+    fault: usize,
+    name: usize,
+    great: bool,
 }
 
-// Where a field begins, if there is one.
-struct Spot {
-    at: usize,
-    is_there: bool,
+// What a line asks for.
+pub(crate) fn read(line: &[u8]) -> Task {
+    if fields::byte_at(line, 0) == b'/' {
+        return blank_task(TYPED, 0, 0);
+    }
+    if check::same(line, b"image empty") {
+        return blank_task(EMPTY, 0, 0);
+    }
+    read_by(&TABLE, line)
 }
 
-// What is wrong with a field.
-enum Fault {
-    Nothing,
-    TooMany,
-    // Each field is well formed, so one is too great.
-    TooGreat,
-    Missing,
-    NoNumber,
-    OddHex,
-    NoHex,
-    NoRun,
-    NoList,
+// A task before any field is read.
+fn blank_task(row: usize, a: u64, at: usize) -> Task {
+    Task {
+        row: row,
+        a: a,
+        b: 0,
+        c: 0,
+        at: at,
+        fault: fields::FINE,
+        name: 0,
+        great: false,
+    }
 }
 
-// A fault, and where the name of its field stands in the form.
-struct Found {
-    fault: Fault,
-    at: usize,
+// What a line asks for by a table of forms.
+fn read_by(table: &[u8], line: &[u8]) -> Task {
+    let row = row_of(table, fields::field_at(line, 0));
+    if ROWS <= row {
+        return reason(fields::NO_ROW, 0);
+    }
+    let t = read_fields(table, row, line);
+    if is_endless(table, line, t) {
+        return task_of(ENDLESS, t);
+    }
+    judged(t)
 }
 
-// `help`: the whole table.
-pub(crate) fn help(out: &mut [u8]) -> usize {
-    telling::add(out, 0, &TABLE)
-}
-
-// The first row that begins with a word.
-pub(crate) fn row_of(word: &[u8]) -> Row {
-    row_in(&TABLE, word)
-}
-
-// The same of any table.
-fn row_in(table: &[u8], word: &[u8]) -> Row {
+// The first row that begins with a word; ROWS where there is none.
+fn row_of(table: &[u8], word: &[u8]) -> usize {
     let mut at = 0;
-    for number in 0..ROWS {
-        if check::same(word, field_at(table, at)) {
-            return Row {
-                number: number,
-                at: at,
-            };
+    for row in 0..ROWS {
+        if check::same(word, fields::field_at(table, at)) {
+            return row;
         }
-        let end = bytes::scan::find(table, at, table.len(), b'\n');
-        if table.len() <= end {
-            return no_row();
-        }
-        at = end + 1;
+        at = fields::past(table, at, LF);
     }
-    no_row()
+    ROWS
 }
 
-fn no_row() -> Row {
-    Row {
-        number: ROWS,
-        at: 0,
-    }
-}
-
-// Of a line that is none of the operations: `?` and why.
-pub(crate) fn reason(line: &[u8], out: &mut [u8]) -> usize {
-    let row = row_of(field_at(line, 0));
-    if ROWS <= row.number {
-        return telling::add(out, 0, b"? no such operation");
-    }
-    let form = fields::rest(&TABLE, row.at);
-    let found = find_fault(line, form);
-    let fault = found.fault;
-    tell_fault(fault, field_at(form, found.at), out)
-}
-
-// The first fault of a line's fields against those of a form.
-fn find_fault(line: &[u8], form: &[u8]) -> Found {
-    let mut here = next_field(line, 0);
-    let mut named = next_field(form, 0);
+// Reads the fields of a line, up to the first one that is wrong.
+fn read_fields(table: &[u8], row: usize, line: &[u8]) -> Task {
+    let mut t = blank_task(row, 0, 0);
+    let mut at = 0;
+    let mut name = fields::past_nth(table, 0, row, LF);
     for _ in 0..MOST_FIELDS {
-        let fault = fault_of(
-            field_at(form, named.at),
-            here.is_there,
-            field_at(line, here.at),
-        );
-        if is_fault(fault) {
-            return Found {
-                fault: fault,
-                at: named.at,
-            };
+        at = fields::past_field(line, at);
+        name = fields::past_field(table, name);
+        let field = read_field(fields::field_at(table, name), line, at, t.great);
+        t = with_field(t, field, at, name);
+        if t.fault != fields::FINE {
+            return t;
         }
-        here = next_field(line, here.at);
-        named = next_field(form, named.at);
     }
-    Found {
-        fault: Fault::Nothing,
-        at: 0,
-    }
+    t
 }
 
-// The field behind the one at a place.
-fn next_field(s: &[u8], at: usize) -> Spot {
-    if s.len() < at {
-        return Spot {
-            at: 0,
-            is_there: false,
-        };
+// What is read, with one more field.
+fn with_field(t: Task, field: Reading, at: usize, name: usize) -> Task {
+    let mut u = t;
+    u.fault = field.fault;
+    u.name = name;
+    if field.fault == fields::ENDED {
+        return u;
     }
-    let end = bytes::scan::find(s, at, s.len(), b' ');
-    if s.len() <= end {
-        return Spot {
-            at: end,
-            is_there: false,
-        };
+    if field.fault == fields::TOO_GREAT {
+        u.great = true;
+        u.fault = fields::FINE;
     }
-    Spot {
-        at: end + 1,
-        is_there: true,
-    }
+    u.at = at;
+    u.a = t.b;
+    u.b = t.c;
+    u.c = field.value;
+    u
 }
 
-// The field at a place.
-fn field_at(s: &[u8], at: usize) -> &[u8] {
-    let t = fields::rest(s, at);
-    let end = bytes::scan::find(t, 0, t.len(), b' ');
-    &t[0..end]
+// The field of a name at a place of a line.
+fn read_field(name: &[u8], line: &[u8], at: usize, great: bool) -> Reading {
+    let kind = row_of(&KINDS, name);
+    let rest = fields::rest(line, at);
+    if kind == KIND_END {
+        return end_of(line.len() < at);
+    }
+    if kind == KIND_LIST {
+        return read_list(rest, line.len() < at, great);
+    }
+    if line.len() < at {
+        return fields::wrong(fields::MISSING);
+    }
+    if kind == KIND_TEXT {
+        return fields::read_as(fields::LAST, 0);
+    }
+    value_of(kind, fields::field_at(rest, 0))
 }
 
-// What is wrong with a field of this name; behind the last one stands the `:` of the form.
-fn fault_of(name: &[u8], is_there: bool, field: &[u8]) -> Fault {
-    if check::same(name, b":") {
-        return fault_at_end(is_there);
+// The end of a form, where no field should be left.
+fn end_of(is_end: bool) -> Reading {
+    fields::wrong(if is_end {
+        fields::ENDED
+    } else {
+        fields::TOO_MANY
+    })
+}
+
+// A list, which may be missing; behind a number that is too great none is read.
+fn read_list(list: &[u8], is_missing: bool, great: bool) -> Reading {
+    if fields::field_at(list, 0).len() == 0 {
+        return fields::wrong(if is_missing && !great {
+            fields::LAST
+        } else {
+            fields::MISSING
+        });
     }
-    if !is_there {
-        return Fault::Missing;
+    let count = if great { 0 } else { list::count_of(list) };
+    if count == 0 {
+        return fields::wrong(fields::NO_LIST);
     }
+    fields::read_as(fields::LAST, count as u64)
+}
+
+// What a field reads as, by the place of its kind among KINDS: HEX, RUN, SLOT, SEQ; else it is a number.
+fn value_of(kind: usize, field: &[u8]) -> Reading {
     if field.len() == 0 {
-        return Fault::Missing;
+        return fields::wrong(fields::MISSING);
     }
-    fault_of_named(name, field)
-}
-
-// The same behind the last field.
-fn fault_at_end(is_there: bool) -> Fault {
-    if is_there {
-        return Fault::TooMany;
-    }
-    Fault::TooGreat
-}
-
-// The same of a field that is there.
-fn fault_of_named(name: &[u8], field: &[u8]) -> Fault {
-    if check::same(name, b"HEX") {
-        return fault_of_hex(field);
-    }
-    if check::same(name, b"LIST") {
-        return Fault::NoList;
-    }
-    if check::same(name, b"RUN") {
-        return fault_of_run(field);
-    }
-    if check::same(name, b"SLOT") {
-        return fault_of_slot(field);
-    }
-    if check::same(name, b"SEQ") {
-        return fault_of_sequence(field);
-    }
-    fault_of_number(field)
-}
-
-// The same of bytes.
-fn fault_of_hex(field: &[u8]) -> Fault {
-    if fields::is_bytes(field, 0) {
-        return Fault::Nothing;
-    }
-    if field.len() % 2 == 1 {
-        return Fault::OddHex;
-    }
-    Fault::NoHex
-}
-
-// The same of `R` or `-`.
-fn fault_of_run(field: &[u8]) -> Fault {
-    if check::same(field, b"R") {
-        return Fault::Nothing;
-    }
-    if check::same(field, b"-") {
-        return Fault::Nothing;
-    }
-    Fault::NoRun
-}
-
-// The same of a slot.
-fn fault_of_slot(field: &[u8]) -> Fault {
-    if check::same(field, b"-") {
-        return Fault::Nothing;
-    }
-    fault_of_number(field)
-}
-
-// The same of a sequence byte.
-fn fault_of_sequence(field: &[u8]) -> Fault {
-    if field.len() == 2 {
-        return fault_of_hex(field);
-    }
-    Fault::NoHex
-}
-
-// The same of a number.
-fn fault_of_number(field: &[u8]) -> Fault {
-    let operand = digits::read_operand(field, 0);
-    match operand {
-        Operand::Missing => Fault::NoNumber,
-        Operand::Number(_, end) => fault_before(field, end),
-        Operand::Above(end) => fault_before(field, end),
+    match kind {
+        0 => fields::hex(field),
+        1 => fields::run(field),
+        2 => fields::slot(field),
+        3 => fields::sequence(field),
+        _ => fields::number(field),
     }
 }
 
-// The same where the digits end at a place.
-fn fault_before(field: &[u8], end: usize) -> Fault {
-    if end == field.len() {
-        return Fault::Nothing;
+// Whether a ramp is that of an endless move.
+fn is_endless(table: &[u8], line: &[u8], t: Task) -> bool {
+    if t.row != RAMP {
+        return false;
     }
-    Fault::NoNumber
-}
-
-fn is_fault(fault: Fault) -> bool {
-    number_of(fault) != 0
-}
-
-// What is wrong, with the name of the field where there is one.
-fn tell_fault(fault: Fault, name: &[u8], out: &mut [u8]) -> usize {
-    let k = number_of(fault);
-    if k < FIRST_NAMED {
-        return telling::add_nth(out, 0, b"?|? a field too many|? too great", k);
+    if t.great {
+        return false;
     }
-    let at = telling::add(out, 0, b"? ");
-    let next = telling::add(out, at, name);
-    telling::add_nth(
-        out,
-        next,
-        b" is missing| is not a number| has an odd digit| is not hex| is neither R nor -| has a bad command",
-        k - FIRST_NAMED,
-    )
+    if fields::byte_at(table, t.name) != b'N' {
+        return false;
+    }
+    check::same(fields::rest(line, t.at), b"endless")
 }
 
-// The place of a fault's words among all.
-fn number_of(fault: Fault) -> usize {
-    match fault {
-        Fault::Nothing => 0,
-        Fault::TooMany => 1,
-        Fault::TooGreat => 2,
-        Fault::Missing => 3,
-        Fault::NoNumber => 4,
-        Fault::OddHex => 5,
-        Fault::NoHex => 6,
-        Fault::NoRun => 7,
-        Fault::NoList => 8,
+// The same task by another row.
+fn task_of(row: usize, t: Task) -> Task {
+    let mut u = t;
+    u.row = row;
+    u
+}
+
+// What was read, or why it is none of the operations.
+fn judged(t: Task) -> Task {
+    if t.fault < fields::LAST {
+        return reason(t.fault, t.name);
+    }
+    if t.great {
+        return reason(fields::TOO_GREAT, 0);
+    }
+    if is_too_great(t) {
+        return reason(fields::TOO_GREAT, 0);
+    }
+    t
+}
+
+// Of a line that is none of the operations: why.
+fn reason(fault: usize, name: usize) -> Task {
+    blank_task(telling::REASON, fault as u64, name)
+}
+
+// Whether a number of 32 bits, or an image, is too great.
+fn is_too_great(t: Task) -> bool {
+    let row = t.row;
+    match row {
+        IMAGE => 2 * (state::IMAGE_MOST as u64) < t.c,
+        ROOM => (state::ROOM_MOST as u64) < t.c,
+        START => BYTE_MOST < t.c,
+        TURN => BYTE_MOST < t.a,
+        RUN => BYTE_MOST < t.b,
+        TIMELINE => BYTE_MOST < t.b,
+        _ => false,
     }
 }

@@ -1,101 +1,78 @@
 // The list of `write`: commands as letters and operands.
 use crate::fields;
-use crate::fields::Number;
+use crate::fields::Reading;
 use commands::Command;
 use commands::Named;
 
 // The most commands that a line can have.
-pub(crate) const MOST: usize = 256;
+const MOST: usize = 256;
 
-// How many commands a list has.
-pub(crate) enum Count {
-    Of(usize),
-    Unreadable,
-}
-
-// A command of the list.
-enum Item {
-    // The command, and the place of the next one.
-    More(Command, usize),
-    Last(Command),
-    Unreadable,
-}
-
-// How many commands stand from a place on: no more than the line has bytes.
-pub(crate) fn count_of(line: &[u8], start: usize) -> Count {
-    let mut at = start;
-    for n in 0..line.len() {
-        match item_at(line, at) {
-            Item::More(_, next) => {
-                at = next;
-            }
-            Item::Last(_) => return Count::Of(n + 1),
-            Item::Unreadable => return Count::Unreadable,
+// How many commands a list has: no more than bytes. 0 where it has a bad one.
+pub(crate) fn count_of(list: &[u8]) -> usize {
+    let mut at = 0;
+    for n in 0..list.len() {
+        if !is_command(list, at) {
+            return 0;
+        }
+        at = past_command(list, at);
+        if list.len() < at {
+            return n + 1;
         }
     }
-    Count::Unreadable
+    0
 }
 
-// The first commands from a place on.
-pub(crate) fn list_of(line: &[u8], start: usize) -> [Command; MOST] {
-    let mut list = [Command::LoopBegin; MOST];
-    let mut at = start;
+// The first commands of a list.
+pub(crate) fn list_of(list: &[u8]) -> [Command; MOST] {
+    let mut commands = [Command::LoopBegin; MOST];
+    let mut at = 0;
     for i in 0..MOST {
-        match item_at(line, at) {
-            Item::More(c, next) => {
-                list[i] = c;
-                at = next;
-            }
-            Item::Last(c) => {
-                list[i] = c;
-                return list;
-            }
-            Item::Unreadable => return list,
-        }
+        let Named::Is(c) = command_at(list, at) else {
+            return commands;
+        };
+        commands[i] = c;
+        at = past_command(list, at);
     }
-    list
+    commands
 }
 
-// The letter and the operand at a place.
-fn item_at(line: &[u8], at: usize) -> Item {
-    if line.len() <= at {
-        return Item::Unreadable;
-    }
-    let letter = line[at];
-    let Number::More(_, next) = fields::byte_at(line, at, letter) else {
-        return Item::Unreadable;
+// The place behind a letter and its operand.
+fn past_command(list: &[u8], at: usize) -> usize {
+    fields::past_nth(list, at, 2, b' ')
+}
+
+// Whether a letter and its operand stand at a place.
+fn is_command(list: &[u8], at: usize) -> bool {
+    let Named::Is(_) = command_at(list, at) else {
+        return false;
     };
-    item_of(letter, operand_at(letter, line, next))
+    true
 }
 
-// The operand of a letter.
-fn operand_at(letter: u8, line: &[u8], at: usize) -> Number {
-    match letter {
-        b'g' => fields::dash_at(line, at),
-        b'H' => fields::pair_at(line, at),
-        b'S' => fields::pair_at(line, at),
-        _ => fields::number_at(line, at),
+// The command whose letter and operand stand at a place.
+fn command_at(list: &[u8], at: usize) -> Named {
+    let letter = fields::field_at(list, at);
+    if letter.len() != 1 {
+        return Named::NoCommand;
     }
+    let operand = fields::field_at(list, fields::past_field(list, at));
+    command_of(letter[0], operand_of(letter[0], operand))
 }
 
 // The command of a letter and its operand.
-fn item_of(letter: u8, operand: Number) -> Item {
-    let Number::More(n, next) = operand else {
-        return last_of(letter, operand);
-    };
-    let Named::Is(c) = commands::command_of(letter, n) else {
-        return Item::Unreadable;
-    };
-    Item::More(c, next)
+fn command_of(letter: u8, operand: Reading) -> Named {
+    if operand.fault != fields::FINE {
+        return Named::NoCommand;
+    }
+    commands::command_of(letter, fields::narrow(operand.value))
 }
 
-// The same, where it is the last.
-fn last_of(letter: u8, operand: Number) -> Item {
-    let Number::Last(n) = operand else {
-        return Item::Unreadable;
-    };
-    let Named::Is(c) = commands::command_of(letter, n) else {
-        return Item::Unreadable;
-    };
-    Item::Last(c)
+// The operand of a letter.
+fn operand_of(letter: u8, operand: &[u8]) -> Reading {
+    match letter {
+        b'g' => fields::none(operand),
+        b'H' => fields::pair(operand),
+        b'S' => fields::pair(operand),
+        _ => fields::number(operand),
+    }
 }

@@ -1,30 +1,35 @@
 // The tester's program: operations on standard input, one a line, and a line of answer for each.
 mod calls;
 mod course;
-mod doing;
 mod fields;
 mod forms;
+mod giving;
 mod list;
-mod operation;
 mod state;
 mod telling;
 mod unit;
-mod words;
 
 ghost use Prim.Native.Nat.{_≤_};
 ghost use lib.ListN.{length};
+use drive::Record;
+use fields::LF;
+use forms::Task;
 use libc::STDIN_FILENO;
-use libc::STDOUT_FILENO;
 use state::Bench;
+use telling::Answer;
 
 const CR: u8 = 13;
 
-const LF: u8 = 10;
+// A line has fewer bytes than that; a longer one is none of the operations.
+const LINE_BYTES: usize = 65536;
+
+// Room behind the longest line: a frame that is made of it ends with two bytes more.
+const LINE_ROOM: usize = LINE_BYTES + 1;
 
 // The bench between two reads.
 struct Progress {
     bench: Bench,
-    // Bytes of a line whose end is still to come; all that there is room for where it is too long.
+    // Bytes of a line whose end is still to come.
     length: usize,
     more: bool,
 }
@@ -32,40 +37,74 @@ struct Progress {
 fn main() {
     let mut image = [0u8; state::IMAGE_MOST];
     let mut buffer = [0u8; state::ROOM_MOST];
-    let mut line = [0u8; state::LINE_BYTES];
-    serve_input(&mut line, &mut image, &mut buffer);
+    let mut line = [0u8; LINE_ROOM];
+    let mut body = [0u8; state::BODY_BYTES];
+    let mut text = [0u8; state::TEXT_BYTES];
+    serve_input(&mut line, &mut image, &mut buffer, &mut body, &mut text);
 }
 
-// Answers every line of the input. Nothing says that the input ends: the loop counts its turns down, from a number that
-// no run uses up.
-fn serve_input(line: &mut [u8], image: &mut [u8], buffer: &mut [u8]) {
+// Answers every line of the input. Nothing says that the input ends: the loop counts its turns down, from a number that no run
+// uses up.
+fn serve_input(
+    line: &mut [u8],
+    image: &mut [u8],
+    buffer: &mut [u8],
+    body: &mut [u8; state::BODY_BYTES],
+    text: &mut [u8; state::TEXT_BYTES],
+) {
     let mut p = Progress {
-        bench: state::begin(image, buffer),
+        bench: state::begin(image, buffer, body, text),
         length: 0,
         more: true,
     };
     let mut turns = u64::MAX;
     while turns > 0 {
-        p = serve_some(p, line, image, buffer);
         turns -= 1;
-        if !p.more {
-            turns = 0;
+        p = serve_some(p, line, image, buffer, body, text);
+        if is_over(p) {
+            return;
         }
     }
-    serve_rest(p, line, image, buffer);
 }
 
-// Reads once and answers the lines that end in what came.
-fn serve_some(p: Progress, line: &mut [u8], image: &mut [u8], buffer: &mut [u8]) -> Progress {
+fn is_over(p: Progress) -> bool {
+    !p.more
+}
+
+// Reads once and answers the lines that end in what came, or the line that the end of input ends.
+fn serve_some(
+    p: Progress,
+    line: &mut [u8],
+    image: &mut [u8],
+    buffer: &mut [u8],
+    body: &mut [u8; state::BODY_BYTES],
+    text: &mut [u8; state::TEXT_BYTES],
+) -> Progress {
     let mut chunk = io::buffer();
     let got = libc::read(STDIN_FILENO, &mut chunk);
     let n = io::count(got, &chunk);
     if n == 0 {
-        let mut q = p;
-        q.more = false;
+        return serve_rest(p, line, image, buffer, body, text);
+    }
+    serve_all(p, &chunk[..n], line, image, buffer, body, text)
+}
+
+// Answers a line that the end of input ends.
+fn serve_rest(
+    p: Progress,
+    line: &mut [u8],
+    image: &mut [u8],
+    buffer: &mut [u8],
+    body: &mut [u8; state::BODY_BYTES],
+    text: &mut [u8; state::TEXT_BYTES],
+) -> Progress {
+    let mut q = p;
+    q.more = false;
+    if p.length == 0 {
         return q;
     }
-    serve_all(p, &chunk[..n], line, image, buffer)
+    q.bench = serve_line(p.bench, p.length, line, image, buffer, body, text);
+    q
 }
 
 // Answers the lines that end in these bytes.
@@ -75,70 +114,136 @@ fn serve_all(
     line: &mut [u8],
     image: &mut [u8],
     buffer: &mut [u8],
+    body: &mut [u8; state::BODY_BYTES],
+    text: &mut [u8; state::TEXT_BYTES],
 ) -> Progress {
     let mut now = p;
-    let mut at = 0;
-    let mut end = bytes::scan::find(bytes, 0, bytes.len(), LF);
-    while end < bytes.len() {
-        let start = at;
-        at = end + 1;
-        now = serve_end(now, &bytes[start..end], line, image, buffer);
-        end = bytes::scan::find(bytes, at, bytes.len(), LF);
+    let mut i = 0;
+    while i < bytes.len() {
+        let byte = bytes[i];
+        i += 1;
+        now = serve_byte(now, byte, line, image, buffer, body, text);
     }
-    keep(now, &bytes[at..], line)
+    now
 }
 
-// Answers the line that these bytes end.
-fn serve_end(
+// Answers the line that a byte ends, or keeps the byte.
+fn serve_byte(
     p: Progress,
-    bytes: &[u8],
+    byte: u8,
     line: &mut [u8],
     image: &mut [u8],
     buffer: &mut [u8],
+    body: &mut [u8; state::BODY_BYTES],
+    text: &mut [u8; state::TEXT_BYTES],
 ) -> Progress {
-    let q = keep(p, bytes, line);
-    serve_line(q, line, image, buffer)
-}
-
-// Keeps these bytes of a line.
-fn keep(p: Progress, bytes: &[u8], line: &mut [u8]) -> Progress {
     let mut q = p;
-    q.length = gather(line, p.length, bytes);
+    if byte == LF {
+        q.bench = serve_line(p.bench, p.length, line, image, buffer, body, text);
+        q.length = 0;
+        return q;
+    }
+    q.length = keep(line, p.length, byte);
     q
 }
 
-// The length of a line with more bytes behind it; that of the array where they do not fit.
-fn gather(line: &mut [u8], length: usize, bytes: &[u8]) -> usize {
-    let n = fields::up_to(length, line);
-    if line.len() - n < bytes.len() {
-        return line.len();
+// Keeps a byte behind n others of a line: how many there are, up to one too many.
+fn keep(line: &mut [u8], n: usize, byte: u8) -> usize {
+    if LINE_BYTES <= n {
+        return LINE_BYTES;
     }
-    parts::put_at(line, n, bytes);
-    n + bytes.len()
+    if line.len() <= n {
+        return LINE_BYTES;
+    }
+    line[n] = byte;
+    n + 1
 }
 
-// Answers a line that the end of input ends.
-fn serve_rest(p: Progress, line: &[u8], image: &mut [u8], buffer: &mut [u8]) {
-    if 0 < p.length {
-        serve_line(p, line, image, buffer);
+// Answers a line.
+fn serve_line(
+    b: Bench,
+    n: usize,
+    line: &mut [u8],
+    image: &mut [u8],
+    buffer: &mut [u8],
+    body: &mut [u8; state::BODY_BYTES],
+    text: &mut [u8; state::TEXT_BYTES],
+) -> Bench {
+    let u = b.unit;
+    let end = line_end(line, n);
+    let t = forms::read(&line[0..end]);
+    let given = giving::give(t, u.number, end, line);
+    let bytes = parts::part(line, given.at, given.length);
+    serve_task(b, t, bytes, image, buffer, body, text)
+}
+
+// Does what a line asks for, with the bytes that it gives.
+fn serve_task(
+    b: Bench,
+    t: Task,
+    given: &[u8],
+    image: &mut [u8],
+    buffer: &mut [u8],
+    body: &mut [u8; state::BODY_BYTES],
+    text: &mut [u8; state::TEXT_BYTES],
+) -> Bench {
+    let u = b.unit;
+    let lent = giving::lend(b.lent, t, given, image, buffer);
+    let n = fields::up_to(lent.image_bytes, image);
+    let room = fields::up_to(lent.room, buffer);
+    let v = serve_lent(
+        u,
+        t,
+        given,
+        &mut image[0..n],
+        &mut buffer[0..room],
+        body,
+        text,
+    );
+    Bench {
+        unit: v,
+        lent: lent,
     }
 }
 
-// Answers a line in one write.
-fn serve_line(p: Progress, line: &[u8], image: &mut [u8], buffer: &mut [u8]) -> Progress {
-    let b = p.bench;
-    let mut out = [0u8; state::ANSWER_BYTES];
-    let n = line_end(line, p.length);
-    let text = &line[0..n];
-    let said = doing::perform(b, operation::read(text), text, image, buffer, &mut out);
-    let end = telling::add(&mut out, said.length, b"\n");
-    let count = fields::up_to(end, &out);
-    io::write_all(STDOUT_FILENO, &out[0..count]);
-    let c = said.bench;
-    Progress {
-        bench: c,
-        length: 0,
-        more: true,
+// The same with the image and the buffer that are lent.
+fn serve_lent(
+    u: Record,
+    t: Task,
+    given: &[u8],
+    image: &mut [u8],
+    buffer: &mut [u8],
+    body: &mut [u8; state::BODY_BYTES],
+    text: &mut [u8; state::TEXT_BYTES],
+) -> Record {
+    let done = unit::perform(u, t, given, image, buffer, body, text);
+    let a = done.answer;
+    let numbers = a.numbers;
+    telling::print(
+        a.row,
+        numbers,
+        told(a, given, image, buffer, text, &forms::TABLE),
+    );
+    done.unit
+}
+
+// The bytes that an answer tells of.
+fn told<'a>(
+    a: Answer,
+    given: &'a [u8],
+    image: &'a [u8],
+    buffer: &'a [u8],
+    text: &'a [u8],
+    table: &'a [u8],
+) -> &'a [u8] {
+    let row = a.row;
+    match row {
+        forms::STORE => image,
+        forms::UNIT => parts::first(text, a.length),
+        forms::READ => parts::part(given, a.at, a.length),
+        forms::HELP => table,
+        telling::REASON => fields::field_at(table, a.at),
+        _ => parts::part(buffer, a.at, a.length),
     }
 }
 
@@ -146,7 +251,10 @@ fn serve_line(p: Progress, line: &[u8], image: &mut [u8], buffer: &mut [u8]) -> 
 fn line_end(line: &[u8], n: usize) -> usize
     ensures { λ r. ⌜ r ≤ length (now (line .entry)) ⌝ }
 {
-    if line.len() <= n {
+    if LINE_BYTES <= n {
+        return 0;
+    }
+    if line.len() < n {
         return 0;
     }
     if n == 0 {

@@ -1,7 +1,151 @@
-// Answers put together in an array: text, numbers in decimal, bytes in hex.
+// Answers: each is a row of one table, filled with numbers and bytes.
+//
+// In a row `#` is the next number in decimal, `~` in two hex digits, `^` in sixteen, and `_` passes one over. `*` is the bytes in
+// hex, `-` where there are none, and `$` the bytes as they are. Of `[one|another]` the next number says which, from 0 on.
+use crate::fields;
+use crate::fields::LF;
+use crate::state;
+use libc::STDOUT_FILENO;
+
+// An answer: its row, the numbers, and of which bytes it tells.
+pub(crate) struct Answer {
+    pub(crate) row: usize,
+    pub(crate) numbers: [u64; MOST_NUMBERS],
+    pub(crate) at: usize,
+    pub(crate) length: usize,
+}
+
+// The most numbers of a row.
+pub(crate) const MOST_NUMBERS: usize = 18;
+
+// The rows past those of the operations, which stand in the order of their forms.
+pub(crate) const NO_UNIT: usize = 21;
+
+pub(crate) const REASON: usize = 22;
+
+pub(crate) const TURN_LINE: usize = 23;
+
+const ROWS_BYTES: usize = 1186;
+
+const ROWS: [u8; ROWS_BYTES] = *b"image #
+image #
+room #
+buffer *
+[started|refused unit-number|refused image-length|refused image-bad]
+[fed # *|refused buffer|refused image-length]
+[act none|act up #|act down #|refused image-length|refused sample|refused steps]
+[ran # idle #|ran # waits|ran # busy|refused image-length|refused sample]
+[ran # idle #|ran # waits|ran # busy|refused image-length|refused sample]
+unit [idle|running] code=# position=# known=# V=# L=# j=# o=# m=# h=# f=# F=# J=# baud=# sample=# last=[-_|#] speed=# text=*
+store *
+[line #][| #]
+text [bad|ok]
+[ramp # # ^ ^ ^|refused V|refused L|refused N]
+[ramp # # ^ ^ ^|refused V|refused L|refused N]
+[wrote *_|refused buffer_|refused #][| #]
+[packet ~ *|refused packet]
+[-_|idle #|busy #|refused buffer_|refused image-length_][| $]
+[count #|refused letter_|refused count_|refused #][| #]
+[-_|idle #|busy #|refused buffer_|refused image-length_][| $]
+$
+no unit
+?[ no such operation| a field too many| too great| $ is missing| $ is not a number| $ has an odd digit| $ is not hex| $ is neither R nor -| $ has a bad command]
+turn #: at # [end|-|$], position #[?|], wait [none_|move #|endless #|away #|toward #|delay #|input ~], [act none|act up #|act down #]
+";
+
+// The longest answer is `store` of the longest image.
+const ANSWER_BYTES: usize = 6 + 2 * state::IMAGE_MOST + 1;
+
+// An answer of at most four numbers that tells of no bytes.
+pub(crate) fn said(row: usize, a: u64, b: u64, c: u64, d: u64) -> Answer {
+    said_of(row, a, b, c, d, 0, 0)
+}
+
+// The same of n bytes from a place on.
+pub(crate) fn said_of(row: usize, a: u64, b: u64, c: u64, d: u64, at: usize, n: usize) -> Answer {
+    Answer {
+        row: row,
+        numbers: [a, b, c, d, 0, 0, 0, 0, 0, 0, 0, 0, 0, 0, 0, 0, 0, 0],
+        at: at,
+        length: n,
+    }
+}
+
+// Writes a row, filled, in one write.
+pub(crate) fn print(row: usize, numbers: [u64; MOST_NUMBERS], bytes: &[u8]) {
+    let mut out = [0u8; ANSWER_BYTES];
+    let n = fill(&ROWS, row, &numbers, bytes, &mut out);
+    let end = fields::up_to(n, &out);
+    io::write_all(STDOUT_FILENO, &out[0..end]);
+}
+
+// Fills a row, up to and with its LF: how many bytes.
+fn fill(rows: &[u8], row: usize, numbers: &[u64], bytes: &[u8], out: &mut [u8]) -> usize {
+    let mut from = fields::past_nth(rows, 0, row, LF);
+    let mut used = 0;
+    let mut at = 0;
+    for _ in 0..rows.len() {
+        let mark = fields::byte_at(rows, from);
+        let n = number_at(numbers, used);
+        from = next_place(rows, from, mark, n);
+        used = next_number(used, mark);
+        at = add_mark(out, at, mark, n, bytes);
+        if mark == LF {
+            return at;
+        }
+    }
+    at
+}
+
+// The number at a place, 0 past the end.
+fn number_at(numbers: &[u64], at: usize) -> u64 {
+    if at < numbers.len() { numbers[at] } else { 0 }
+}
+
+// The place in the rows behind a mark and its number: at `[` that of the text which is chosen; at the `|` behind such a text the
+// place past its `]`.
+fn next_place(rows: &[u8], from: usize, mark: u8, n: u64) -> usize {
+    let after = fields::past(rows, from, mark);
+    match mark {
+        b'[' => fields::past_nth(rows, after, n as usize, b'|'),
+        b'|' => fields::past(rows, after, b']'),
+        _ => after,
+    }
+}
+
+// How many numbers are used behind a mark.
+fn next_number(used: usize, mark: u8) -> usize {
+    if MOST_NUMBERS <= used {
+        return used;
+    }
+    match mark {
+        b'#' => used + 1,
+        b'~' => used + 1,
+        b'^' => used + 1,
+        b'_' => used + 1,
+        b'[' => used + 1,
+        _ => used,
+    }
+}
+
+// Adds what a mark stands for; most stand for themselves.
+fn add_mark(out: &mut [u8], at: usize, mark: u8, n: u64, bytes: &[u8]) -> usize {
+    match mark {
+        b'#' => add_decimal(out, at, n),
+        b'~' => add_hex(out, at, n, 2),
+        b'^' => add_hex(out, at, n, 16),
+        b'*' => add_bytes(out, at, bytes),
+        b'$' => add(out, at, bytes),
+        b'_' => at,
+        b'[' => at,
+        b'|' => at,
+        b']' => at,
+        _ => add_byte(out, at, mark),
+    }
+}
 
 // The place past a text put at a place; where there is no room for it, the place itself.
-pub(crate) fn add(out: &mut [u8], at: usize, text: &[u8]) -> usize {
+fn add(out: &mut [u8], at: usize, text: &[u8]) -> usize {
     if out.len() < at {
         return at;
     }
@@ -12,71 +156,34 @@ pub(crate) fn add(out: &mut [u8], at: usize, text: &[u8]) -> usize {
     at + text.len()
 }
 
-// Adds the k-th of some texts, from 0 on, which are parted by `|`.
-pub(crate) fn add_nth(out: &mut [u8], at: usize, texts: &[u8], k: usize) -> usize {
-    add(out, at, nth(texts, k))
-}
-
-// The k-th of some texts.
-fn nth(texts: &[u8], k: usize) -> &[u8] {
-    let mut from = 0;
-    for _ in 0..k {
-        let end = bytes::scan::find(texts, from, texts.len(), b'|');
-        if texts.len() <= end {
-            return &texts[0..0];
-        }
-        from = end + 1;
+// Adds one byte.
+fn add_byte(out: &mut [u8], at: usize, byte: u8) -> usize {
+    if out.len() <= at {
+        return at;
     }
-    let last = bytes::scan::find(texts, from, texts.len(), b'|');
-    &texts[from..last]
+    out[at] = byte;
+    at + 1
 }
 
-// Adds a name and a number in decimal.
-pub(crate) fn add_number(out: &mut [u8], at: usize, name: &[u8], n: u64) -> usize {
+// Adds a number in decimal.
+fn add_decimal(out: &mut [u8], at: usize, n: u64) -> usize {
     let mut digits = [0u8; 20];
     let k = io::decimal(n, &mut digits);
-    let next = add(out, at, name);
-    add(out, next, &digits[..k])
-}
-
-// Adds numbers, each behind its name; each name ends at a `#`.
-pub(crate) fn add_numbers(out: &mut [u8], at: usize, names: &[u8], numbers: &[u32]) -> usize {
-    let mut next = at;
-    let mut from = 0;
-    for k in 0..numbers.len() {
-        let end = bytes::scan::find(names, from, names.len(), b'#');
-        if names.len() <= end {
-            return next;
-        }
-        let start = from;
-        from = end + 1;
-        next = add_number(out, next, &names[start..end], widened(numbers[k]));
-    }
-    next
-}
-
-fn widened(n: u32) -> u64 {
-    n as u64
+    add(out, at, &digits[..k])
 }
 
 // Adds a number in hex, with at least so many digits.
-pub(crate) fn add_hex(out: &mut [u8], at: usize, n: u64, width: usize) -> usize {
+fn add_hex(out: &mut [u8], at: usize, n: u64, width: usize) -> usize {
     let mut digits = [0u8; 16];
     let k = io::hex(n, width, &mut digits);
     add(out, at, &digits[..k])
 }
 
-// Adds a name and bytes in hex; no bytes is `-`.
-pub(crate) fn add_bytes(out: &mut [u8], at: usize, name: &[u8], bytes: &[u8]) -> usize {
-    let next = add(out, at, name);
+// Adds bytes in hex; no bytes is `-`.
+fn add_bytes(out: &mut [u8], at: usize, bytes: &[u8]) -> usize {
     if bytes.len() == 0 {
-        return add(out, next, b"-");
+        return add_byte(out, at, b'-');
     }
-    add_pairs(out, next, bytes)
-}
-
-// Adds two digits for each byte.
-fn add_pairs(out: &mut [u8], at: usize, bytes: &[u8]) -> usize {
     let mut next = at;
     for i in 0..bytes.len() {
         next = add_hex(out, next, wide(bytes[i]), 2);

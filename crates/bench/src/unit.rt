@@ -2,474 +2,277 @@
 use crate::calls;
 use crate::course;
 use crate::fields;
-use crate::operation::OnUnit;
+use crate::forms;
+use crate::forms::Task;
 use crate::state;
-use crate::state::Bench;
-use crate::state::Said;
-use crate::state::Whole;
+use crate::state::Done;
 use crate::telling;
+use crate::telling::Answer;
 use answers::Found;
-use drive::Fed;
+use answers::Packet;
 use drive::FeedAnswer;
 use drive::Last;
+use drive::Record;
 use drive::StartAnswer;
 use drive::TurnAnswer;
-use motor::Wait;
-use turns::Action;
 use turns::Core;
 use turns::Direction;
 
-// The numbers that `unit` tells.
-const NUMBERS: usize = 14;
-
-// `start N`
-pub(crate) fn start(b: Bench, number: u8, image: &[u8], out: &mut [u8]) -> Said {
-    let w = b.whole;
-    let mut body = w.body;
-    let mut text = w.text;
-    let s = drive::start(number, image, &mut body, &mut text);
-    let unit = s.unit;
-    let answer = s.answer;
-    let whole = Whole {
-        unit: unit,
-        body: body,
-        text: text,
-    };
-    Said {
-        bench: started(b, answer, whole),
-        length: tell_start(answer, out),
-    }
-}
-
-// The bench after a start; a refused one leaves the unit as it was.
-fn started(b: Bench, answer: StartAnswer, whole: Whole) -> Bench {
-    let StartAnswer::Started = answer else {
-        return b;
-    };
-    state::with_unit(b, whole)
-}
-
-// What came of a start.
-fn tell_start(answer: StartAnswer, out: &mut [u8]) -> usize {
-    let k = match answer {
-        StartAnswer::Started => 0,
-        StartAnswer::UnitNumber => 1,
-        StartAnswer::ImageLength => 2,
-        StartAnswer::ImageBad => 3,
-    };
-    telling::add_nth(
-        out,
-        0,
-        b"started|refused unit-number|refused image-length|refused image-bad",
-        k,
-    )
-}
-
-// An operation on the unit, where there is one.
-pub(crate) fn on_unit(
-    b: Bench,
-    on: OnUnit,
-    line: &[u8],
+// Does an operation with the bytes that it gives, and with the image and the buffer that are lent.
+pub(crate) fn perform(
+    u: Record,
+    t: Task,
+    given: &[u8],
     image: &mut [u8],
     buffer: &mut [u8],
-    out: &mut [u8],
-) -> Said {
-    if !b.started {
-        return Said {
-            bench: b,
-            length: telling::add(out, 0, b"no unit"),
+    body: &mut [u8; state::BODY_BYTES],
+    text: &mut [u8; state::TEXT_BYTES],
+) -> Done {
+    if is_for_none(t.row, u.number) {
+        return Done {
+            unit: u,
+            answer: telling::said(telling::NO_UNIT, 0, 0, 0, 0),
         };
     }
-    match on {
-        OnUnit::Turn { sample, ms, steps } => turn(b, sample, ms, steps, image, out),
-        OnUnit::Run { sample, ms, told } => course::run(b, sample, ms, told, image, out),
-        OnUnit::Feed { typed, at } => feed_line(b, typed, line, at, image, buffer, out),
-        OnUnit::Oem { sequence, at } => feed_oem(b, sequence, line, at, image, buffer, out),
-        OnUnit::Tell => Said {
-            bench: b,
-            length: tell(b, out),
+    let row = t.row;
+    match row {
+        forms::START => start(u, fields::byte_of(t.c), image, body, text),
+        forms::TURN => turn(u, t, text, image),
+        forms::FEED => feed(u, forms::FEED, given, image, buffer, body, text),
+        forms::OEM => feed(u, forms::OEM, given, image, buffer, body, text),
+        forms::TYPED => feed(u, forms::TYPED, given, image, buffer, body, text),
+        forms::RUN => course::run(u, t, text, image),
+        forms::TIMELINE => course::run(u, t, text, image),
+        _ => Done {
+            unit: u,
+            answer: ask(u, t, given, image.len(), buffer),
         },
     }
 }
 
-// `feed HEX`, or a typed line
-fn feed_line(
-    b: Bench,
-    typed: bool,
-    line: &[u8],
-    at: usize,
-    image: &mut [u8],
-    buffer: &mut [u8],
-    out: &mut [u8],
-) -> Said {
-    let mut bytes = [0u8; state::LINE_BYTES];
-    let end = bytes_of(typed, line, at, &mut bytes);
-    let n = fields::up_to(end, &bytes);
-    feed(b, &bytes[0..n], typed, image, buffer, out)
-}
-
-// The bytes that a line gives from a place on; of a typed one the line with a CR.
-fn bytes_of(typed: bool, line: &[u8], at: usize, bytes: &mut [u8]) -> usize {
-    if typed {
-        let n = telling::add(bytes, 0, line);
-        return telling::add(bytes, n, b"\r");
+// Whether an operation needs a unit where there is none.
+fn is_for_none(row: usize, number: u8) -> bool {
+    if number != 0 {
+        return false;
     }
-    fields::read_bytes(line, at, bytes)
+    match row {
+        forms::FEED => true,
+        forms::TURN => true,
+        forms::RUN => true,
+        forms::TIMELINE => true,
+        forms::UNIT => true,
+        forms::OEM => true,
+        forms::TYPED => true,
+        _ => false,
+    }
 }
 
-// `oem SEQ TEXT`
-fn feed_oem(
-    b: Bench,
-    sequence: u8,
-    line: &[u8],
-    at: usize,
-    image: &mut [u8],
-    buffer: &mut [u8],
-    out: &mut [u8],
-) -> Said {
-    let w = b.whole;
-    let u = w.unit;
-    let mut bytes = [0u8; state::LINE_BYTES];
-    let end = frame_oem(u.number, sequence, fields::rest(line, at), &mut bytes);
-    let n = fields::up_to(end, &bytes);
-    feed(b, &bytes[0..n], true, image, buffer, out)
+// The answer to an operation that leaves the unit as it is.
+fn ask(u: Record, t: Task, given: &[u8], image_bytes: usize, buffer: &mut [u8]) -> Answer {
+    if t.row == forms::UNIT {
+        return tell(u);
+    }
+    calls::ask(t, given, image_bytes as u64, buffer)
 }
 
-// 02, the address of a unit, which is 1 to 16, the sequence byte, a text, 03 and the checksum: how many bytes.
-fn frame_oem(number: u8, sequence: u8, text: &[u8], bytes: &mut [u8]) -> usize {
-    let head = [2, b'0' + number % 32, sequence];
-    let mut n = telling::add(bytes, 0, &head);
-    n = telling::add(bytes, n, text);
-    let etx = [3u8];
-    n = telling::add(bytes, n, &etx);
-    let end = fields::up_to(n, bytes);
-    let sum = [checksum::sum(&bytes[0..end])];
-    telling::add(bytes, n, &sum)
+// `start N`
+fn start(
+    u: Record,
+    number: u8,
+    image: &[u8],
+    body: &mut [u8; state::BODY_BYTES],
+    text: &mut [u8; state::TEXT_BYTES],
+) -> Done {
+    let s = drive::start(number, image, body, text);
+    let v = s.unit;
+    let answer = s.answer;
+    let k = start_code(answer);
+    Done {
+        unit: started(k, u, v),
+        answer: telling::said(forms::START, k, 0, 0, 0),
+    }
+}
+
+fn start_code(answer: StartAnswer) -> u64 {
+    match answer {
+        StartAnswer::Started => 0,
+        StartAnswer::UnitNumber => 1,
+        StartAnswer::ImageLength => 2,
+        StartAnswer::ImageBad => 3,
+    }
+}
+
+// The unit after a start; a refused one leaves it as it was.
+fn started(k: u64, u: Record, v: Record) -> Record {
+    if k == 0 {
+        return v;
+    }
+    u
 }
 
 // Bytes fed in one call.
 fn feed(
-    b: Bench,
+    u: Record,
+    row: usize,
     bytes: &[u8],
-    typed: bool,
     image: &mut [u8],
     buffer: &mut [u8],
-    out: &mut [u8],
-) -> Said {
-    let w = b.whole;
-    let u = w.unit;
-    let mut body = w.body;
-    let mut text = w.text;
-    let f = drive::feed(u, &mut body, &mut text, bytes, image, buffer);
-    let unit = f.unit;
-    let n = fields::up_to(f.answered, buffer);
-    let whole = Whole {
-        unit: unit,
-        body: body,
-        text: text,
-    };
-    Said {
-        bench: state::with_unit(b, whole),
-        length: tell_feed(f, typed, &buffer[0..n], out),
+    body: &mut [u8; state::BODY_BYTES],
+    text: &mut [u8; state::TEXT_BYTES],
+) -> Done {
+    let f = drive::feed(u, body, text, bytes, image, buffer);
+    let v = f.unit;
+    let answer = f.answer;
+    Done {
+        unit: v,
+        answer: tell_feed(row, feed_code(answer), f.consumed, f.answered, buffer),
     }
 }
 
-// What came of a feed.
-fn tell_feed(f: Fed, typed: bool, packet: &[u8], out: &mut [u8]) -> usize {
-    let answer = f.answer;
-    let k = match answer {
+fn feed_code(answer: FeedAnswer) -> u64 {
+    match answer {
         FeedAnswer::Taken => 0,
         FeedAnswer::BufferShort => 1,
         FeedAnswer::ImageLength => 2,
-    };
-    if k == 0 {
-        return tell_fed(f.consumed, typed, packet, out);
     }
-    telling::add_nth(out, 0, b"|refused buffer|refused image-length", k)
 }
 
 // How many bytes were consumed, and the answer; of a typed line the answer alone, as text.
-fn tell_fed(consumed: usize, typed: bool, packet: &[u8], out: &mut [u8]) -> usize {
-    if typed {
-        return tell_packet(packet, out);
+fn tell_feed(row: usize, k: u64, consumed: usize, answered: usize, buffer: &[u8]) -> Answer {
+    if row == forms::FEED {
+        return telling::said_of(row, k, consumed as u64, 0, 0, 0, answered);
     }
-    let at = telling::add_number(out, 0, b"fed ", consumed as u64);
-    telling::add_bytes(out, at, b" ", packet)
+    if k == 1 {
+        return telling::said(row, 3, 0, 0, 0);
+    }
+    if k == 2 {
+        return telling::said(row, 4, 0, 0, 0);
+    }
+    tell_packet(row, calls::read_either(parts::first(buffer, answered)))
 }
 
 // An answer as text; `-` where none came.
-fn tell_packet(packet: &[u8], out: &mut [u8]) -> usize {
-    let p = calls::read_either(packet);
+fn tell_packet(row: usize, p: Packet) -> Answer {
     let found = p.found;
     let Found::OnePacket = found else {
-        return telling::add(out, 0, b"-");
+        return telling::said(row, 0, 0, 0, 0);
     };
-    let at = tell_status(p.idle, p.code, out);
-    if p.length == 0 {
-        return at;
-    }
-    let next = telling::add(out, at, b" ");
-    telling::add(out, next, fields::part(packet, p.at, p.length))
-}
-
-// Whether the unit is idle, and the code.
-fn tell_status(idle: bool, code: u8, out: &mut [u8]) -> usize {
-    if idle {
-        return telling::add_number(out, 0, b"idle ", code as u64);
-    }
-    telling::add_number(out, 0, b"busy ", code as u64)
-}
-
-// The bench after a turn, and what came of it.
-pub(crate) struct Turned {
-    pub(crate) bench: Bench,
-    pub(crate) action: Action,
-    pub(crate) answer: TurnAnswer,
-}
-
-// A turn.
-pub(crate) fn take_turn(b: Bench, sample: u8, ms: u32, steps: u32, image: &[u8]) -> Turned {
-    let w = b.whole;
-    let u = w.unit;
-    let body = w.body;
-    let mut text = w.text;
-    let t = drive::turn(u, &mut text, sample, ms, steps, image);
-    let unit = t.unit;
-    let action = t.action;
-    let answer = t.answer;
-    let whole = Whole {
-        unit: unit,
-        body: body,
-        text: text,
-    };
-    Turned {
-        bench: state::with_unit(b, whole),
-        action: action,
-        answer: answer,
-    }
+    let k = if p.idle { 1 } else { 2 };
+    telling::said_of(
+        row,
+        k,
+        p.code as u64,
+        (p.length != 0) as u64,
+        0,
+        p.at,
+        p.length,
+    )
 }
 
 // `turn SAMPLE MS STEPS`
-fn turn(b: Bench, sample: u8, ms: u32, steps: u32, image: &[u8], out: &mut [u8]) -> Said {
-    let t = take_turn(b, sample, ms, steps, image);
-    let c = t.bench;
-    let action = t.action;
-    let answer = t.answer;
-    Said {
-        bench: c,
-        length: tell_turn(answer, action, out),
-    }
-}
-
-// What came of a turn.
-fn tell_turn(answer: TurnAnswer, action: Action, out: &mut [u8]) -> usize {
-    let k = match answer {
-        TurnAnswer::Taken => 0,
-        TurnAnswer::ImageLength => 1,
-        TurnAnswer::Sample => 2,
-        TurnAnswer::Steps => 3,
-    };
-    if k == 0 {
-        return tell_action(action, 0, out);
-    }
-    telling::add_nth(
-        out,
-        0,
-        b"|refused image-length|refused sample|refused steps",
-        k,
-    )
-}
-
-// The next motor action.
-pub(crate) fn tell_action(action: Action, at: usize, out: &mut [u8]) -> usize {
+fn turn(u: Record, t: Task, text: &mut [u8; state::TEXT_BYTES], image: &[u8]) -> Done {
+    let turned = drive::turn(
+        u,
+        text,
+        fields::byte_of(t.a),
+        fields::narrow(t.b),
+        fields::narrow(t.c),
+        image,
+    );
+    let v = turned.unit;
+    let action = turned.action;
     let direction = action.direction;
-    let k = match direction {
+    let answer = turned.answer;
+    Done {
+        unit: v,
+        answer: telling::said(
+            forms::TURN,
+            turn_code(answer, direction),
+            action.number as u64,
+            0,
+            0,
+        ),
+    }
+}
+
+fn turn_code(answer: TurnAnswer, direction: Direction) -> u64 {
+    match answer {
+        TurnAnswer::Taken => direction_code(direction),
+        TurnAnswer::ImageLength => 3,
+        TurnAnswer::Sample => 4,
+        TurnAnswer::Steps => 5,
+    }
+}
+
+pub(crate) fn direction_code(direction: Direction) -> u64 {
+    match direction {
         Direction::Still => 0,
         Direction::Up => 1,
         Direction::Down => 2,
-    };
-    let next = telling::add_nth(out, at, b"act none|act up |act down ", k);
-    if k == 0 {
-        return next;
     }
-    telling::add_number(out, next, b"", action.number as u64)
-}
-
-// Where a unit stands between two turns.
-pub(crate) struct Stand {
-    pub(crate) running: bool,
-    pub(crate) code: u8,
-    // The place of the next command.
-    pub(crate) at: usize,
-    pub(crate) position: u32,
-    pub(crate) known: bool,
-    // The greatest number of the last action.
-    pub(crate) steps: u32,
-    pub(crate) wait: Waited,
-}
-
-// What a run waits for, and what is left of it; of an input its two digits.
-pub(crate) struct Waited {
-    pub(crate) what: usize,
-    pub(crate) number: u32,
-}
-
-// What a run can wait for, as `timeline` names it.
-pub(crate) const NOTHING: usize = 0;
-
-const MOVE: usize = 1;
-
-const ENDLESS: usize = 2;
-
-const AWAY: usize = 3;
-
-const TOWARD: usize = 4;
-
-const DELAY: usize = 5;
-
-pub(crate) const INPUT: usize = 6;
-
-// Where the unit stands.
-pub(crate) fn standing(b: Bench) -> Stand {
-    let w = b.whole;
-    let u = w.unit;
-    let c = u.core;
-    let f = c.flow;
-    let m = c.motor;
-    let last = m.last;
-    let wait = m.wait;
-    Stand {
-        running: c.running,
-        code: c.code,
-        at: f.at,
-        position: m.position,
-        known: m.known,
-        steps: last.number,
-        wait: waiting(wait),
-    }
-}
-
-// What a run waits for.
-fn waiting(wait: Wait) -> Waited {
-    match wait {
-        Wait::Nothing => waits(NOTHING, 0),
-        Wait::Move { up, endless, left } => waits_for_move(endless, left),
-        Wait::LegAway { left, span } => waits(AWAY, left),
-        Wait::LegToward(left) => waits(TOWARD, left),
-        Wait::Delay(left) => waits(DELAY, left),
-        Wait::Input(digits) => waits(INPUT, digits),
-    }
-}
-
-fn waits_for_move(endless: bool, left: u32) -> Waited {
-    if endless {
-        return waits(ENDLESS, left);
-    }
-    waits(MOVE, left)
-}
-
-fn waits(what: usize, number: u32) -> Waited {
-    Waited {
-        what: what,
-        number: number,
-    }
-}
-
-// Adds the command at a place of the current text, as it was typed; `end` where none is left.
-pub(crate) fn add_command(b: Bench, place: usize, out: &mut [u8], at: usize) -> usize {
-    let w = b.whole;
-    let u = w.unit;
-    let c = u.core;
-    let f = c.flow;
-    let text = w.text;
-    add_typed(text, f.length, place, out, at)
-}
-
-// The same of a text: the first bytes of an array.
-fn add_typed(
-    text: [u8; state::TEXT_BYTES],
-    length: usize,
-    place: usize,
-    out: &mut [u8],
-    at: usize,
-) -> usize {
-    let n = fields::up_to(length, &text);
-    telling::add(out, at, fields::command_at(&text[0..n], place))
 }
 
 // `unit`
-fn tell(b: Bench, out: &mut [u8]) -> usize {
-    let w = b.whole;
-    let u = w.unit;
+fn tell(u: Record) -> Answer {
     let c = u.core;
     let f = c.flow;
-    let text = w.text;
-    let at = tell_state(c.running, out);
-    let next = tell_numbers(numbers_of(c), at, out);
     let last = u.last;
-    let told = tell_last(last, next, out);
-    let end = telling::add_number(out, told, b" speed=", c.endless as u64);
-    tell_text(text, f.length, end, out)
+    Answer {
+        row: forms::UNIT,
+        numbers: numbers_of(c, is_number(last), number_of(last)),
+        at: 0,
+        length: f.length,
+    }
 }
 
-// The number of the last OEM frame that was not refused; `-` for none.
-fn tell_last(last: Last, at: usize, out: &mut [u8]) -> usize {
+// Whether an OEM frame was not refused, and the number of the last one.
+fn is_number(last: Last) -> u64 {
     match last {
-        Last::Never => telling::add(out, at, b" last=-"),
-        Last::Number(n) => telling::add_number(out, at, b" last=", n as u64),
+        Last::Never => 0,
+        Last::Number(_) => 1,
     }
 }
 
-// Whether the unit runs.
-fn tell_state(running: bool, out: &mut [u8]) -> usize {
-    if running {
-        return telling::add(out, 0, b"unit running");
+fn number_of(last: Last) -> u64 {
+    match last {
+        Last::Never => 0,
+        Last::Number(n) => n as u64,
     }
-    telling::add(out, 0, b"unit idle")
 }
 
-// The numbers of a unit, each by its name.
-fn tell_numbers(numbers: [u32; NUMBERS], at: usize, out: &mut [u8]) -> usize {
-    telling::add_numbers(
-        out,
-        at,
-        b" code=# position=# known=# V=# L=# j=# o=# m=# h=# f=# F=# J=# baud=# sample=#",
-        &numbers,
-    )
-}
-
-// The numbers of a unit, in the order of those names.
-fn numbers_of(c: Core) -> [u32; NUMBERS] {
+// The numbers of a unit, in the order of their names.
+fn numbers_of(c: Core, is_last: u64, last: u64) -> [u64; telling::MOST_NUMBERS] {
     let m = c.motor;
-    let known = m.known as u32;
-    let sample = m.sample as u32;
+    let known = m.known as u64;
+    let sample = m.sample as u64;
     let s = c.settings;
-    let j = step_size(s.exponent);
     [
-        c.code as u32,
-        m.position,
+        c.running as u64,
+        c.code as u64,
+        m.position as u64,
         known,
-        s.speed,
-        s.acceleration,
-        j,
-        s.correction,
-        s.moving,
-        s.holding,
-        s.flag,
-        s.turned,
-        s.outputs,
-        s.baud,
+        s.speed as u64,
+        s.acceleration as u64,
+        step_size(s.exponent),
+        s.correction as u64,
+        s.moving as u64,
+        s.holding as u64,
+        s.flag as u64,
+        s.turned as u64,
+        s.outputs as u64,
+        wide(s.baud),
         sample,
+        is_last,
+        last,
+        c.endless as u64,
     ]
 }
 
-// The current text: the first bytes of an array.
-fn tell_text(text: [u8; state::TEXT_BYTES], length: usize, at: usize, out: &mut [u8]) -> usize {
-    let n = fields::up_to(length, &text);
-    telling::add_bytes(out, at, b" text=", &text[0..n])
+fn wide(n: u32) -> u64 {
+    n as u64
 }
 
 // 2 to the kept exponent of `j`, as `?6` tells it.
-fn step_size(exponent: u32) -> u32 {
+fn step_size(exponent: u32) -> u64 {
     if exponent < 8 { 1 << exponent } else { 256 }
 }

@@ -9,7 +9,7 @@ use Rattle.parts.proofs.Laws.{cases}
 use Rattle.commands.specs.Table.{oneOf}
 use Rattle.commands.proofs.TableLaws.{each, each-one}
 use Rattle.frames.specs.declared.Framing.{Framing}
-use Rattle.frames.specs.Receive.{obeyed}
+use Rattle.frames.specs.Receive.{ours}
 use Rattle.turns.specs.declared.Core.{Core}
 use Rattle.turns.specs.Turns.{freshCore, started}
 use Rattle.obeying.specs.declared.Obeyed.{Obeyed}
@@ -17,7 +17,7 @@ use Rattle.obeying.specs.Obeying.{loadedAs}
 use Rattle.obeying.specs.Deeds.{Obeys, refuses, tells, stores, clears, stops, resumes, speeds, again, loads}
 use Rattle.drive.specs.declared.Last.{Last}
 use Rattle.drive.specs.Unit.{Drive}
-use Rattle.drive.specs.Repeats.{numberIn, isRefusal}
+use Rattle.drive.specs.Repeats.{sequenceNumber, isRefusal}
 use Rattle.image.specs.Image.{slotGood}
 use Rattle.drive.specs.Calls.{startOf, receivedBy, bodyBy, obeyedBy, feedOf, Turning}
 use Rattle.drive.proofs.FeedLaws.{frame-does}
@@ -85,7 +85,7 @@ held-code (fresh number image body text l e) = go (slotGood image 0) refl
     is q h = subst (λ (n : ℕ). oneOf causeCodes n ≡ true) (sym q) h
 
     go : (b : Bool) → slotGood image 0 ≡ b → oneOf causeCodes (startOf number image body text .unit .core .code) ≡ true
-    go true g = is (starts-good number image body text e g) refl
+    go true g = is (starts-good number image body text e g .code-0) refl
     go false g = is (starts-held number image body text e g .holding) refl
 held-code (called {u} c r) = after-held c r (held-code r)
 
@@ -95,8 +95,8 @@ no-refusal : (k : ℕ) → oneOf causeCodes k ≡ true → isRefusal k ≡ false
 unfolding oneOf each
 no-refusal k e = not-true _ (each-one (λ n. not (isRefusal n)) causeCodes k refl e)
 
-pub sets-number : {u : Drive} → Reached u → (bytes image buffer : List ℕ) (q : ℕ) → Heeded image buffer → obeyed (receivedBy u bytes .frame) ≡ true
-    → receivedBy u bytes .framing ≡ Framing.Oem q → frameCode u bytes ≡ 0 → feedOf u bytes image buffer .unit .last ≡ Last.Number (numberIn q)
+pub sets-number : {u : Drive} → Reached u → (bytes image buffer : List ℕ) (q : ℕ) → Heeded image buffer → ours (receivedBy u bytes .frame) ≡ true
+    → receivedBy u bytes .framing ≡ Framing.Oem q → frameCode u bytes ≡ 0 → feedOf u bytes image buffer .unit .last ≡ Last.Number (sequenceNumber q)
 sets-number {u} r bytes image buffer q h f g k =
     let o : Obeyed = obeyedBy u bytes in
     let core : feedOf u bytes image buffer .unit .core ≡ o .core =

@@ -9,13 +9,14 @@ use lib.ListN.{length}
 use lib.Seq.{take-all}
 use borrow.Author.Tests.{le-ltb}
 use Rattle.parts.proofs.Laws.{cases}
+use Rattle.parts.specs.Letters.{cr, etx}
 use Rattle.lines.proofs.TakenLaws.{no}
 use Rattle.image.specs.Image.{rightLength}
 use Rattle.answers.specs.Packet.{packetBytes}
 use Rattle.frames.specs.declared.Frame.{Frame}
 use Rattle.frames.specs.declared.Framing.{Framing}
 use Rattle.frames.specs.Addresses.{isUnit, unitByte, calledOf}
-use Rattle.frames.specs.Receive.{mostKept, bodyIn, cr, etx, obeyed, good}
+use Rattle.frames.specs.Receive.{mostKept, bodyIn, ours, good}
 use Rattle.frames.specs.Claims.{Sound, Whole, free, frameOf, oemOf, sumOf, FrameClaims}
 use Rattle.obeying.specs.declared.Obeyed.{Obeyed}
 use Rattle.obeying.specs.Obeying.{bodyObeyed}
@@ -106,7 +107,7 @@ module _ (frames : FrameClaims) where
         Typed u Framing.Plain body bytes image buffer (feedOf u bytes image buffer)
     typed body image buffer t f =
         whole-heard Framing.Plain body body (frameOf (unitByte (u .number)) body) image buffer t
-        (frames .receiving (u .receiver) (u .number) .whole (unitByte (u .number)) body (reached-ready r .0) (t .elsewhere-than-sum) (ap obeyed own) f)
+        (frames .receiving (u .receiver) (u .number) .whole (unitByte (u .number)) body (reached-ready r .0) (t .elsewhere-than-sum) (ap ours own) f)
         (chosen-not (u .last) Framing.Plain body refl)
 
     -- an OEM frame, whatever is chosen of its body
@@ -116,7 +117,7 @@ module _ (frames : FrameClaims) where
         Typed u (Framing.Oem q) b bytes image buffer (feedOf u bytes image buffer)
     oem-heard q b body image buffer t g f e =
         whole-heard (Framing.Oem q) b body (oemOf (unitByte (u .number)) q body (sumOf (unitByte (u .number)) q body)) image buffer t
-        (frames .receiving (u .receiver) (u .number) .whole-oem (unitByte (u .number)) q body (reached-ready r .0) (t .elsewhere-than-sum) (ap obeyed own) g f) e
+        (frames .receiving (u .receiver) (u .number) .whole-oem (unitByte (u .number)) q body (reached-ready r .0) (t .elsewhere-than-sum) (ap ours own) g f) e
 
   pub joined : {u : Drive} → Reached u → Joined u
   joined {u} r = record {

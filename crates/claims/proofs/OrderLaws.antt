@@ -9,7 +9,7 @@ use native.Mathlib.Decide.{decLt}
 use lib.ListN.{length}
 use lib.Dec.{ltb, eqb}
 use borrow.Author.Tests.{ltb-true, ltb-false, lt-ltb, le-ltb, eqb-true, eqb-false, ne-eqb, not-true}
-use Rattle.parts.specs.Parts.{same}
+use Rattle.parts.specs.Parts.{same, mostBytes}
 use Rattle.parts.proofs.Laws.{cases}
 use Rattle.digits.proofs.Writing.{length-most}
 use Rattle.commands.specs.declared.Fault.{Fault}
@@ -20,8 +20,6 @@ use Rattle.lines.specs.declared.Immediate.{Immediate}
 use Rattle.lines.specs.declared.Immediate.the-variants.{Terminate, Status, CurrentText, Position, Speed, Sample, EndlessSpeed, StepSize, Correction, Clear}
 use Rattle.lines.specs.declared.Body.{Body}
 use Rattle.lines.specs.declared.Taken.{Taken}
-use Rattle.lines.specs.Examples.{bytes}
-use Rattle.lines.specs.Texts.{mostBytes}
 use Rattle.lines.specs.Bodies.{immediates, immediateIn, beginsImmediate, otherOf, bodyOf, lineOf, noFault, takenFault, bodyFault, lineFault, lineCode}
 use Rattle.lines.specs.Claims.{PlacedIn}
 use Rattle.lines.proofs.CodeLaws.{TakenCode, taken-code, codes}
@@ -158,7 +156,7 @@ module _ (c : Core) where
 
     -- "body over 256 bytes" is told before the body is looked at, and of no other
     body-right : length b ≤ mostBytes → AsKind (beginsImmediate b) (immediate b) (resuming c b || onTheWay c b) (bodyOf b)
-    unfolding bodyOf resuming bytes
+    unfolding bodyOf resuming
     body-right h = rw (le-ltb mostBytes (length b) h) (go (beginsImmediate b) refl)
       where
         go : (t : Bool) → beginsImmediate b ≡ t → AsKind t (immediate b) (resuming c b || onTheWay c b) (cond t (immediateIn immediates b) (otherOf b))

@@ -1,96 +1,121 @@
 -- The outcomes of start, feed and turn: the definitions make their tests in the order of 01's table.
 -- Assumes nothing.
-use Prim.Native.Nat.{ℕ, zero, suc, _≤_, _<_}
-use mathlib.Core.Path.{_≡_, refl, _∙_}
+use Prim.Native.Nat.{ℕ, zero, suc, _≤_}
+use Prim.Native.String.{String}
+use mathlib.Core.Path.{_≡_, refl, sym, ap, _∙_}
 use mathlib.Core.List.{List, [], _∷_, _++_}
-use mathlib.Core.Bool.{Bool, true, false, cond, _||_}
+use mathlib.Core.Bool.{Bool, true, false, _||_, and-eq-true-iff}
 use native.Mathlib.Omega.{arith}
 use lib.ListN.{length, drop}
-use lib.Dec.{ltb, eqb}
-use borrow.Author.Tests.{lt-ltb, le-ltb, ne-eqb}
-use Rattle.parts.specs.Parts.{putIn}
-use Rattle.parts.proofs.Laws.{cases, put-front, put-in-room}
+use lib.Dec.{eqb}
+use borrow.Author.Tests.{lt-ltb, le-ltb, le-leb, eq-eqb, ne-eqb}
+use Rattle.parts.specs.Parts.{putIn, mostBytes}
+use Rattle.parts.proofs.Laws.{put-front, put-in-room}
+use Rattle.digits.specs.Operand.{operandMost, fewDigits}
 use Rattle.commands.specs.Table as table
 use Rattle.commands.proofs.TableLaws.{each, each-one}
-use Rattle.lines.proofs.TakenLaws.{no}
-use Rattle.image.specs.declared.Checked.{Checked}
-use Rattle.image.specs.Calls.{checkedBy, olderOf}
-use Rattle.image.proofs.CallLaws.{good-before}
-use Rattle.image.specs.Image.{rightLength, slots, slotsOlder}
+use Rattle.lines.specs.Texts.{textGood, olderGood}
+use Rattle.lines.proofs.FewLaws.{good-now}
 use Rattle.frames.specs.declared.Frame.{Frame}
 use Rattle.frames.specs.declared.Framing.{Framing}
+use Rattle.frames.specs.Addresses.{isUnit}
+use Rattle.frames.proofs.Addresses.{unit-is}
 use Rattle.answers.specs.Packet.{packetBytes}
+use Rattle.ramp.specs.declared.Verdict.{Verdict}
+use Rattle.ramp.specs.declared.Verdict.the-variants.{Taken, RefusedV, RefusedL, RefusedN}
+use Rattle.ramp.specs.Ramp.{figuresOf, verdictName}
+use Rattle.ramp.specs.Claims.{When, Verdicts}
 use Rattle.obeying.specs.Obeying.{placeTold, dataOf}
+use Rattle.turns.specs.Turns.{freshCore}
 use Rattle.drive.specs.Unit.{Drive}
 use Rattle.drive.specs.declared.Last.{Last}
 use Rattle.drive.specs.Repeats.{isRefusal, numberedBy}
 use Rattle.drive.specs.declared.StartAnswer.{StartAnswer}
 use Rattle.drive.specs.declared.FeedAnswer.{FeedAnswer}
 use Rattle.drive.specs.declared.TurnAnswer.{TurnAnswer}
-use Rattle.turns.specs.Turns.{turnCore}
-use Rattle.frames.specs.Addresses.{isUnit}
 use Rattle.drive.specs.Names.{startName, feedName, turnName}
-use Rattle.drive.specs.Calls.{noUnit, freshUnit, Starting, starting, startOf, receivedBy, bodyBy, obeyedBy, packetAs, answerTo, feedRefused, feedTaken, feedOf, mostSample, turnRefused, turnTaken, turnOf}
+use Rattle.drive.specs.Calls.{noUnit, freshUnit, starting, startOf, receivedBy, bodyBy, packetAs, answerTo, feedRefused, feedOf, turnRefused, turnOf}
 use Rattle.drive.proofs.AnswerLaws.{packet-fits}
 use Rattle.drive.proofs.FeedLaws.{put-nothing}
-use Rattle.claims.specs.Demand1.{StartRow, ImageRow, FrameRefused, frameFault, frameCode, placeData, refusalPacket, FeedRow, TurnRow}
+use Rattle.claims.specs.Images.{EverySlot}
+use Rattle.claims.specs.Demand1.{From, StartRefused, StartRow, FrameRefused, frameFault, frameCode, placeData, refusalPacket, FeedRefused, FeedRow, TurnRefused, TurnRow, RampRefused, RampRow}
+use Rattle.claims.proofs.ImageLaws.{so-every, not-every}
 use Rattle.claims.proofs.OrderLaws.{order-row}
 
--- what the check for start says
-older-so : (image : List ℕ) → olderOf image ≡ Checked.Good → (rightLength image ≡ true) × (slotsOlder image slots ≡ true)
-unfolding checkedBy
-older-so image = cases Q (rightLength image) (λ a. cases Q (slotsOlder image slots) (λ b e. (a, b)) (λ b e. no (cc))) (λ a e. no (cc))
+-- ---- start
+
+pub from-unit : (number : ℕ) → From 1 16 number → isUnit number ≡ true
+from-unit number h = rw (le-leb 1 number (h .0), le-leb number 16 (h .1))
+
+from-no-unit : (number : ℕ) → (From 1 16 number → ⊥) → isUnit number ≡ false
+from-no-unit number n = go (isUnit number) refl
   where
-    Q : Checked → Type 0
-    Q r = r ≡ Checked.Good → (rightLength image ≡ true) × (slotsOlder image slots ≡ true)
+    go : (b : Bool) → isUnit number ≡ b → b ≡ false
+    go true e = absurd (n (unit-is number e))
+    go false e = refl
+
+-- what the check of texts finds good, it found good before
+before : (t : List ℕ) → textGood t ≡ true → olderGood t ≡ true
+before t h = and-eq-true-iff (olderGood t) (fewDigits operandMost t) .0 (sym (good-now t) ∙ h) .0
+
+slots-before : (image : List ℕ) → EverySlot textGood image → EverySlot olderGood image
+slots-before image h k l =
+    let g = h k l in
+    record { start = g .start; fits = g .fits; passes = before _ (g .passes); unused = g .unused }
+
+module _ (name : String) (a : StartAnswer) (body text : List ℕ) where
+  refused-start : startName a ≡ name → StartRefused name body text (starting a (noUnit body text))
+  unfolding noUnit freshCore
+  refused-start e = record { named = e; number-0 = refl; idle = refl; body-same = refl; text-same = refl }
 
 pub start-row : (number : ℕ) (image body text : List ℕ) → StartRow number image body text
-unfolding startOf noUnit
+unfolding startOf freshUnit
 start-row number image body text = record {
-  named = go (isUnit number) (rightLength image) (slotsOlder image slots);
-  unit-number = λ n. rw n;
-  image-length = λ n l. rw (n, l);
-  image-bad = λ n l g. rw (n, l, g);
-  started = λ n l g. rw (n, l, g);
-  good-starts = λ n g. let k = older-so image (good-before image g) in rw (n, k .0, k .1);
-  texts-same = cases Left (isUnit number)
-      (λ a. cases Left (rightLength image) (λ b. cases Left (slotsOlder image slots) (λ s n. absurd (n refl)) (λ s n. (refl, refl))) (λ b n. (refl, refl)))
-      (λ a n. (refl, refl));
+  unit-number = λ n. rw (from-no-unit number n) (refused-start _ StartAnswer.UnitNumber body text refl);
+  image-length = λ n l. rw (from-unit number n, ne-eqb (length image) 4160 l) (refused-start _ StartAnswer.ImageLength body text refl);
+  image-bad = λ n l g. rw (from-unit number n, eq-eqb (length image) 4160 l, not-every mostBytes image l g) (refused-start _ StartAnswer.ImageBad body text refl);
+  started = λ n l g. rw (from-unit number n, eq-eqb (length image) 4160 l, so-every mostBytes image l g) (refl, refl);
+  good-starts = λ n l g. rw (from-unit number n, eq-eqb (length image) 4160 l, so-every mostBytes image l (slots-before image g));
 }
-  where
-    -- what a refusal leaves
-    Left : Starting → Type 0
-    Left s = (s .answer ≡ StartAnswer.Started → ⊥) → (s .unit .receiver .body ≡ body) × (s .unit .text ≡ text)
 
-    go : (a b d : Bool)
-        → startName (cond a (cond b (cond d (starting StartAnswer.Started (freshUnit number image body)) (starting StartAnswer.ImageBad (noUnit body text))) (starting StartAnswer.ImageLength (noUnit body text))) (starting StartAnswer.UnitNumber (noUnit body text)) .answer)
-        ≡ cond a (cond b (cond d "started" "bad image") "image not 4,160 bytes") "unit number not 1 to 16"
-    go true true true = refl
-    go true true false = refl
-    go true false d = refl
-    go false b d = refl
+-- ---- turn
 
-pub image-row : (image : List ℕ) → ImageRow image
-unfolding checkedBy
-image-row image = record { wrong-length = λ l. rw l; bad = λ l g. rw (l, g); good = λ l g. rw (l, g) }
+refused-turn : (name : String) (a : TurnAnswer) (u : Drive) → turnName a ≡ name → TurnRefused name u (turnRefused a u)
+refused-turn name a u e = record { named = e; unit-same = refl; no-direction = refl; number-0 = refl }
 
 pub turn-row : (u : Drive) (sample ms steps : ℕ) (image : List ℕ) → TurnRow u sample ms steps image
 unfolding turnOf
-turn-row u sample ms steps image = record {
-  named = go (rightLength image) (ltb mostSample sample) (ltb (u .core .motor .last .number) steps);
-  image-length = λ l. rw l;
-  sample-high = λ l s. rw (l, lt-ltb mostSample sample s);
-  steps-many = λ l s m. rw (l, le-ltb mostSample sample s, lt-ltb (u .core .motor .last .number) steps m);
-  taken = λ l s m. rw (l, le-ltb mostSample sample s, le-ltb (u .core .motor .last .number) steps m);
+turn-row u sample ms steps image =
+    let last : ℕ = u .core .motor .last .number in
+    record {
+      image-length = λ l. rw (ne-eqb (length image) 4160 l) (refused-turn _ TurnAnswer.ImageLength u refl);
+      sample-high = λ l s. rw (eq-eqb (length image) 4160 l, lt-ltb 15 sample s) (refused-turn _ TurnAnswer.Sample u refl);
+      steps-many = λ l s m. rw (eq-eqb (length image) 4160 l, le-ltb 15 sample s, lt-ltb last steps m) (refused-turn _ TurnAnswer.Steps u refl);
+      taken = λ l s m. rw (eq-eqb (length image) 4160 l, le-ltb 15 sample s, le-ltb last steps m);
+    }
+
+-- ---- ramp
+
+pub ramp-row : ((v l : ℕ) (endless : Bool) (n : ℕ) → Verdicts v l endless n (figuresOf v l endless n))
+    → (v l : ℕ) (endless : Bool) (n : ℕ) → RampRow v l endless n
+ramp-row outcome v l endless n = record {
+  v-outside = λ a. no RefusedV _ refl (λ e. let z : _≡_ {A = ℕ} 0 1 = cc in absurd (omega arith)) a;
+  l-outside = λ a b. no RefusedL _ refl (λ e. let z : _≡_ {A = ℕ} 0 1 = cc in absurd (omega arith)) (a, b);
+  n-outside = λ a b e d. no RefusedN _ refl (λ q. let z : _≡_ {A = ℕ} 0 1 = cc in absurd (omega arith)) (a, b, e, d);
+  taken = λ a b d. ap verdictName (outcome v l endless n .exactly-when Taken .1 (record { within-v = a; within-l = b; within-n = d }));
 }
   where
-    go : (a b d : Bool)
-        → turnName (cond a (cond b (turnRefused TurnAnswer.Sample u) (cond d (turnRefused TurnAnswer.Steps u) (turnTaken (turnCore sample ms steps (u .text) image (u .core)) image u))) (turnRefused TurnAnswer.ImageLength u) .answer)
-        ≡ cond a (cond b "sample over 15" (cond d "too many microsteps" "taken")) "image not 4,160 bytes"
-    go true true d = refl
-    go true false true = refl
-    go true false false = refl
-    go false b d = refl
+    no : (verdict : Verdict) (name : String) → verdictName verdict ≡ name → (verdict ≡ Taken → ⊥) → When verdict v l endless n
+        → RampRefused name (figuresOf v l endless n)
+    no verdict name e t w =
+        let q = outcome v l endless n .exactly-when verdict .1 w in
+        record { named = ap verdictName q ∙ e; zeros = outcome v l endless n .refused (λ z. t (sym q ∙ z)) .zero }
+
+-- ---- feed
+
+refused-feed : (name : String) (a : FeedAnswer) (u : Drive) (image buffer : List ℕ) → feedName a ≡ name → FeedRefused name u image buffer (feedRefused a u image buffer)
+refused-feed name a u image buffer e =
+    record { named = e; none-consumed = refl; none-answered = refl; unit-same = refl; image-same = refl; buffer-same = refl }
 
 -- a packet of at most three digits at the front of a buffer of 262 bytes
 front : (g : Framing) (status : ℕ) (bytes buffer : List ℕ) → length bytes ≤ 3 → packetBytes ≤ length buffer
@@ -115,15 +140,7 @@ refused-last Framing.Plain k last e = refl
 refused-last (Framing.Oem q) k last e = rw e
 
 module _ (u : Drive) (bytes image buffer : List ℕ) where
-  buffer-short : length buffer < packetBytes → feedOf u bytes image buffer ≡ feedRefused FeedAnswer.BufferShort u image buffer
-  unfolding feedOf
-  buffer-short l = rw (lt-ltb (length buffer) packetBytes l)
-
-  image-length : packetBytes ≤ length buffer → rightLength image ≡ false → feedOf u bytes image buffer ≡ feedRefused FeedAnswer.ImageLength u image buffer
-  unfolding feedOf
-  image-length l w = rw (le-ltb (length buffer) packetBytes l, w)
-
-  module _ (l : packetBytes ≤ length buffer) (w : rightLength image ≡ true) where
+  module _ (l : 262 ≤ length buffer) (w : length image ≡ 4160) where
     frame-refused : receivedBy u bytes .frame ≡ Frame.Alone → (frameCode u bytes ≡ 0 → ⊥)
         → FrameRefused u bytes image buffer (refusalPacket u (receivedBy u bytes .framing) (frameFault u bytes))
     unfolding feedOf answerTo
@@ -131,7 +148,11 @@ module _ (u : Drive) (bytes image buffer : List ℕ) where
         let h = order-row (bodyBy u bytes) (u .core) in
         let g = receivedBy u bytes .framing in
         let same = refused-last g (frameCode u bytes) (u .last) (refusal (frameCode u bytes) (h .codes) n) in
-        rw (le-ltb (length buffer) packetBytes l, w, f, h .refused n, told-place _ _ _, front g _ _ buffer (h .three-digits) l, same)
+        rw (le-ltb (length buffer) 262 l, eq-eqb (length image) 4160 w, f, h .refused n, told-place _ _ _, front g _ _ buffer (h .three-digits) l, same)
+
+    group-silent : receivedBy u bytes .frame ≡ Frame.Group → (feedOf u bytes image buffer .answered ≡ 0) × (feedOf u bytes image buffer .buffer ≡ buffer)
+    unfolding feedOf
+    group-silent f = rw (le-ltb (length buffer) 262 l, eq-eqb (length image) 4160 w, f) (refl, put-nothing buffer)
 
     group-refused : receivedBy u bytes .frame ≡ Frame.Group → (frameCode u bytes ≡ 0 → ⊥) → FrameRefused u bytes image buffer []
     unfolding feedOf
@@ -139,16 +160,15 @@ module _ (u : Drive) (bytes image buffer : List ℕ) where
         let h = order-row (bodyBy u bytes) (u .core) in
         let g = receivedBy u bytes .framing in
         let same = refused-last g (frameCode u bytes) (u .last) (refusal (frameCode u bytes) (h .codes) n) in
-        rw (le-ltb (length buffer) packetBytes l, w, f, h .refused n, put-nothing buffer, same)
-
-  feed-named : (a b : Bool)
-      → feedName (cond a (feedRefused FeedAnswer.BufferShort u image buffer)
-      (cond b (feedTaken (receivedBy u bytes) (bodyBy u bytes) (obeyedBy u bytes) u image buffer) (feedRefused FeedAnswer.ImageLength u image buffer)) .answer)
-      ≡ cond a "answer buffer under 262 bytes" (cond b "taken" "image not 4,160 bytes")
-  feed-named true b = refl
-  feed-named false true = refl
-  feed-named false false = refl
+        rw (le-ltb (length buffer) 262 l, eq-eqb (length image) 4160 w, f, h .refused n, put-nothing buffer, same)
 
   pub feed-row : FeedRow u bytes image buffer
   unfolding feedOf
-  feed-row = record { named = feed-named (ltb (length buffer) packetBytes) (rightLength image); buffer-short = buffer-short; image-length = image-length; frame-refused = frame-refused; group-refused = group-refused }
+  feed-row = record {
+    buffer-short = λ l. rw (lt-ltb (length buffer) 262 l) (refused-feed _ FeedAnswer.BufferShort u image buffer refl);
+    image-length = λ l w. rw (le-ltb (length buffer) 262 l, ne-eqb (length image) 4160 w) (refused-feed _ FeedAnswer.ImageLength u image buffer refl);
+    taken = λ l w. rw (le-ltb (length buffer) 262 l, eq-eqb (length image) 4160 w);
+    group-silent = group-silent;
+    frame-refused = frame-refused;
+    group-refused = group-refused;
+  }

@@ -33,5 +33,5 @@ use Rattle.claims.specs.Edges.{edges}
 use Rattle.claims.proofs.KTableLaws.{tests}
 
 pub tables-pass : (tests cases ≡ true) × (tests edges ≡ true)
-unfolding cases edges fresh plays afterTurns parts-parts.part parts-parts.put parts-parts.putIn parts-parts.padded parts-parts.same digits-decimal.digitsIn digits-decimal.digitsOf digits-decimal.ascii digits-decimal.decimal digits-operand.digitRun digits-operand.valueAfter digits-operand.operandOf digits-operand.operandAt commands-table.table commands-table.find commands-table.asksOf commands-table.commandOf commands-table.oneOf commands-table.powerIn commands-table.exponentOf commands-table.within lines-bodies.immediates lines-bodies.immediateIn lines-bodies.bodyOf lines-bodies.endsWithR lines-bodies.textEnd lines-bodies.takenOf lines-bodies.lineOf lines-bodies.lineCode lines-examples.bytes lines-examples.examples lines-examples.each lines-texts.readingIn lines-texts.structured lines-texts.lineJudged image-calls.storedOf image-calls.afterStore image-calls.afterClear image-image.wordAt image-image.word image-image.entryOf image-image.bodyOf image-image.zeros image-image.goodAt image-image.slotText image-image.entryFor image-image.withEntry image-image.withBody image-image.withText image-image.emptyEntries image-image.emptyImage ramp-ramp.speedOf ramp-ramp.accelerationOf ramp-ramp.timeOf ramp-ramp.distanceOf ramp-ramp.takenOf ramp-ramp.refusedOf ramp-ramp.figuresOf ramp-ranges.outside frames-addresses.pairs frames-addresses.fours frames-addresses.pairOf frames-addresses.fourOf frames-addresses.calledOf frames-receive.stored frames-receive.heard frames-receive.stepOf frames-receive.receiveOf answers-packet.packet answers-packet.statusOf answers-packet.numberData answers-oem.oemSum answers-oem.oemTail answers-oem.oemPacket checksum-checksum.xor checksum-checksum.sumFrom checksum-checksum.checksumOf drive-repeats.isQuery drive-repeats.chosen flow-flow.begun flow-flow.again flow-flow.loopBegun flow-flow.loopEnded motor-inputs.high motor-inputs.levelThere motor-inputs.falls motor-inputs.cut motor-motion.fresh motor-motion.room motor-motion.counted motor-motion.reported motor-motion.finite motor-motion.relative motor-motion.absolute motor-motion.homed motor-motion.delayed motor-motion.held motor-motion.movedOn motor-motion.endlessOn motor-motion.awayOn motor-motion.towardOn motor-motion.delayOn motor-motion.stopped motor-motion.served turns-settings.defaults turns-turns.freshCore turns-turns.started turns-turns.ended turns-turns.astray turns-turns.acted turns-turns.jumped turns-turns.skipTaken turns-turns.commandTaken turns-turns.readTaken turns-turns.running turns-turns.stepOf turns-turns.turnCore turns-turns.actionAnswered obeying-obeying.stepSize obeying-obeying.loadedAs obeying-obeying.bodyObeyed drive-calls.freshUnit drive-calls.noUnit drive-calls.startOf drive-calls.answerTo drive-calls.feedOf drive-calls.turnOf lines-bodies.lineFault lines-texts.unplaced lines-texts.faultPlaces lines-texts.fifteenth lines-texts.storedPlaces lines-texts.leftmost obeying-speed.speedLine digits-operand.operandUpTo commands-reading.readBy lines-texts.readingBy lines-texts.storedBy lines-texts.textGoodBy image-calls.checkedBy image-image.slotBy image-image.slotsBy
+unfolding cases edges fresh plays afterTurns parts-parts.part parts-parts.put parts-parts.putIn parts-parts.padded parts-parts.same digits-decimal.digitsIn digits-decimal.digitsOf digits-decimal.ascii digits-decimal.decimal digits-operand.digitRun digits-operand.valueAfter digits-operand.operandOf digits-operand.operandAt commands-table.table commands-table.find commands-table.asksOf commands-table.commandOf commands-table.oneOf commands-table.powerIn commands-table.exponentOf commands-table.within lines-bodies.immediates lines-bodies.immediateIn lines-bodies.bodyOf lines-bodies.endsWithR lines-bodies.textEnd lines-bodies.takenOf lines-bodies.lineOf lines-bodies.lineCode lines-examples.examples lines-examples.each lines-texts.readingIn lines-texts.structured lines-texts.lineJudged image-calls.storedOf image-calls.afterStore image-calls.afterClear image-image.wordAt image-image.word image-image.entryOf image-image.slotBody image-image.allZeros image-image.goodAt image-image.slotText image-image.entryFor image-image.withEntry image-image.withBody image-image.withText image-image.emptyEntries image-image.emptyImage ramp-ramp.speedOf ramp-ramp.accelerationOf ramp-ramp.timeOf ramp-ramp.distanceOf ramp-ramp.peakFigures ramp-ramp.refusedOf ramp-ramp.figuresOf ramp-ranges.outside frames-addresses.pairs frames-addresses.fours frames-addresses.pairOf frames-addresses.fourOf frames-addresses.calledOf frames-receive.stored frames-receive.heard frames-receive.byteReceived frames-receive.receiveOf answers-packet.packet answers-packet.statusOf answers-packet.numberData answers-oem.oemSum answers-oem.oemTail answers-oem.oemPacket checksum-checksum.xor checksum-checksum.sumFrom checksum-checksum.checksumOf drive-repeats.isQuery drive-repeats.chosen flow-flow.begun flow-flow.again flow-flow.loopBegun flow-flow.loopEnded motor-inputs.high motor-inputs.levelThere motor-inputs.falls motor-inputs.cut motor-motion.freshMotor motor-motion.room motor-motion.counted motor-motion.reported motor-motion.finite motor-motion.relative motor-motion.absolute motor-motion.homed motor-motion.delayed motor-motion.held motor-motion.movedOn motor-motion.endlessOn motor-motion.awayOn motor-motion.towardOn motor-motion.delayOn motor-motion.stopped motor-motion.served turns-settings.defaults turns-turns.freshCore turns-turns.started turns-turns.ended turns-turns.astray turns-turns.acted turns-turns.jumped turns-turns.skipTaken turns-turns.commandTaken turns-turns.readTaken turns-turns.running turns-turns.stepOf turns-turns.turnCore turns-turns.actionAnswered obeying-obeying.stepSize obeying-obeying.loadedAs obeying-obeying.bodyObeyed drive-calls.freshUnit drive-calls.noUnit drive-calls.startOf drive-calls.answerTo drive-calls.feedOf drive-calls.turnOf lines-bodies.lineFault lines-texts.unplaced lines-texts.faultPlaces lines-texts.fifteenth lines-texts.storedPlaces lines-texts.leftmost obeying-speed.speedLine digits-operand.operandUpTo commands-reading.readBy lines-texts.readingBy lines-texts.storedBy lines-texts.textGoodBy image-calls.checkedBy image-image.slotBy image-image.slotsBy
 tables-pass = (refl, refl)

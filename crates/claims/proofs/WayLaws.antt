@@ -9,9 +9,9 @@ use lib.Dec.{leb, eqb}
 use borrow.Author.Tests.{eq-eqb, ne-eqb, eqb-true, eqb-false}
 use Rattle.parts.specs.Parts.{same}
 use Rattle.parts.proofs.Laws.{cases}
+use Rattle.parts.specs.Letters.{bytes}
 use Rattle.digits.specs.declared.Operand.{Operand}
 use Rattle.digits.specs.Operand.{isDigit, digitRun, valueAfter, widest, operandOf, operandAt}
-use Rattle.lines.specs.Examples.{bytes}
 use Rattle.lines.specs.Bodies.{endsWithR}
 use Rattle.motor.specs.Motion.{isEndless}
 use Rattle.turns.specs.declared.Core.{Core}
@@ -33,7 +33,7 @@ one-on a b = go (eqb (1 + a) b) refl
 
 -- digits and then `R`, behind a byte x
 then-r : (x : ℕ) (xs : List ℕ) → digitsThenR xs ≡ (eqb (1 + length (digitRun xs)) (length xs) && eqb (getD (x ∷ xs) (length xs) 0) 82)
-unfolding digitsThenR digitRun same bytes
+unfolding digitsThenR digitRun same
 then-r x [] = refl
 then-r x (y ∷ ys) = go (isDigit y) refl (then-r y ys)
   where

@@ -16,7 +16,7 @@ use Rattle.lines.specs.Claims.{LineClaims}
 use Rattle.image.specs.declared.Checked.{Checked}
 use Rattle.image.specs.Image.{rightLength, slots, slotText}
 use Rattle.image.specs.Calls.{checkedOf}
-use Rattle.image.specs.Claims.{Kept, ImageClaims}
+use Rattle.image.specs.Claims.{SlotKept, ImageClaims}
 use Rattle.frames.specs.Claims.{FrameClaims}
 use Rattle.answers.specs.AnswerClaims.{AnswerClaims}
 use Rattle.ramp.specs.Claims.{RampClaims}
@@ -30,6 +30,8 @@ use Rattle.stream.specs.Oem.{OemClaims}
 use Rattle.runs.specs.Reach.{Reached}
 use Rattle.runs.specs.Packets.{PacketClaims}
 use Rattle.effects.specs.Claims.{EffectClaims}
+use Rattle.claims.specs.Demand1.{From}
+use Rattle.claims.specs.Addressed.{Addressed}
 use Rattle.claims.specs.Moves.{MoveTurns}
 use Rattle.claims.specs.Joined.{Joined}
 
@@ -54,7 +56,7 @@ pub record Stores (b : List ℕ) (slot at n : ℕ) (c : Core) (text image : List
   pub text-same : textWritten (bodyObeyed b c .write) b text ≡ text
   pub stored : rightLength image ≡ true → slotText (imageWritten (bodyObeyed b c .write) b image) slot ≡ part b at n
   -- "`s` rewrites one entry and one body" of the image lent with the frame
-  pub elsewhere : (j : ℕ) → j < slots → (j ≡ slot → ⊥) → Kept j image (imageWritten (bodyObeyed b c .write) b image)
+  pub elsewhere : (j : ℕ) → j < slots → (j ≡ slot → ⊥) → SlotKept j image (imageWritten (bodyObeyed b c .write) b image)
   pub stays-good : checkedOf image ≡ Checked.Good → checkedOf (imageWritten (bodyObeyed b c .write) b image) ≡ Checked.Good
 
 pub record LineDoes (b : List ℕ) (c : Core) (text image : List ℕ) : Type 0 where
@@ -84,6 +86,7 @@ pub record Demand2 : Type 0 where
   pub written : HostClaims
   -- "Cutting the serial stream differently", "a whole frame for another unit"
   pub frames : FrameClaims
+  pub addressed : (u : ℕ) → From 1 16 u → Addressed u
   pub stream : StreamClaims
   -- 02, E1: skipped frames, repeats, the number
   pub oem : OemClaims

@@ -6,17 +6,18 @@ use mathlib.Core.List.{List, []}
 use mathlib.Core.Bool.{true, false, not, cond}
 use lib.ListN.{length}
 use Rattle.commands.specs.Table.{oneOf}
-use Rattle.lines.specs.Texts.{mostBytes}
+use Rattle.parts.specs.Parts.{mostBytes}
+use Rattle.parts.specs.Letters.{cr, etx}
 use Rattle.image.specs.Image.{rightLength}
 use Rattle.frames.specs.declared.Framing.{Framing}
 use Rattle.frames.specs.Addresses.{isUnit, unitByte}
-use Rattle.frames.specs.Receive.{cr, etx, obeyed, good, elsewhere}
+use Rattle.frames.specs.Receive.{ours, good, elsewhere}
 use Rattle.frames.specs.Claims.{Sound, free, frameOf, oemOf, sumOf}
 use Rattle.answers.specs.Packet.{packetBytes, statusOf}
 use Rattle.obeying.specs.Obeying.{bodyObeyed}
 use Rattle.drive.specs.Unit.{Drive}
 use Rattle.drive.specs.declared.Last.{Last}
-use Rattle.drive.specs.Repeats.{numberIn, isRepeat, isQuery}
+use Rattle.drive.specs.Repeats.{sequenceNumber, isRepeat, isQuery}
 use Rattle.drive.specs.Calls.{receivedBy, packetAs, Feeding, feedOf}
 use Rattle.stream.specs.Fits.{Fits}
 use Rattle.stream.specs.Oem.{Heeded}
@@ -63,5 +64,5 @@ pub record Joined (u : Drive) : Type 0 where
       Typed u (Framing.Oem q) (cond (isQuery body) body []) bytes image buffer (feedOf u bytes image buffer)
   -- "the number of the last OEM frame for this unit or its groups not refused": one that the order of checks takes sets it; a refused one
   -- leaves it (`FeedRow`), as do plain and skipped frames
-  pub sets-number : (bytes image buffer : List ℕ) (q : ℕ) → Heeded image buffer → obeyed (receivedBy u bytes .frame) ≡ true
-      → receivedBy u bytes .framing ≡ Framing.Oem q → frameCode u bytes ≡ 0 → feedOf u bytes image buffer .unit .last ≡ Last.Number (numberIn q)
+  pub sets-number : (bytes image buffer : List ℕ) (q : ℕ) → Heeded image buffer → ours (receivedBy u bytes .frame) ≡ true
+      → receivedBy u bytes .framing ≡ Framing.Oem q → frameCode u bytes ≡ 0 → feedOf u bytes image buffer .unit .last ≡ Last.Number (sequenceNumber q)

@@ -43,6 +43,6 @@ pub record RowIs (l : ℕ) (r : Lettered) : Type 0 where
   pub commands : (n : ℕ) → numberedAs n (r .command) ≡ commandOf l n
 
 -- the letter's command with that number, or the fault at the letter's place
-abbrev pub finished : ℕ → ℕ → Fitted → Read
-finished l p (Fits n next) = At (commandOf l n) next
-finished l p (Fails code) = Bad (fault code p)
+abbrev pub fittedRead : ℕ → ℕ → Fitted → Read
+fittedRead l p (Fits n next) = At (commandOf l n) next
+fittedRead l p (Fails code) = Bad (fault code p)

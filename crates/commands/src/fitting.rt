@@ -1,8 +1,8 @@
 // The operand that a letter asks for, and the command with it.
 ghost use mathlib.Core.Path.{_≡_};
 ghost use Prim.Native.Nat.{ℕ};
-ghost use Rattle.commands.specs.Reading.{required, orElse, begins, letterAt};
-ghost use Rattle.commands.specs.Fitting.{finished, actNumbered, numberedAs};
+ghost use Rattle.commands.specs.Reading.{required, orElse, notBefore, letterAt};
+ghost use Rattle.commands.specs.Fitting.{fittedRead, actNumbered, numberedAs};
 use crate::Act;
 use crate::Asks;
 use crate::Command;
@@ -13,7 +13,7 @@ use digits::Operand;
 
 // The number of a letter that asks so, with its operand from a place of s, of so many digits at most.
 pub(crate) fn fit_at(asks: Asks, s: &[u8], at: usize, most: usize) -> Fitted
-    ensures { λ r. ⌜ ((l : ℕ) → finished l at r ≡ letterAt most asks l (now (s .entry)) at) ⌝ }
+    ensures { λ r. ⌜ ((l : ℕ) → fittedRead l at r ≡ letterAt most asks l (now (s .entry)) at) ⌝ }
 {
     match asks {
         Asks::Unknown => Fitted::Fails(2),
@@ -25,8 +25,8 @@ pub(crate) fn fit_at(asks: Asks, s: &[u8], at: usize, most: usize) -> Fitted
 
 // The number of an operand that must stand at `at`.
 fn fit_required(range: Range, operand: Operand, at: usize) -> Fitted
-    requires { ⌜ begins at operand ⌝ }
-    ensures { λ r. ⌜ ((l : ℕ) → finished l at r ≡ required l range operand at) ⌝ }
+    requires { ⌜ notBefore at operand ⌝ }
+    ensures { λ r. ⌜ ((l : ℕ) → fittedRead l at r ≡ required l range operand at) ⌝ }
 {
     let Operand::Number(n, next) = operand else {
         return Fitted::Fails(3);
@@ -40,8 +40,8 @@ fn fit_required(range: Range, operand: Operand, at: usize) -> Fitted
 
 // The same, where no operand means the number m.
 fn fit_or(range: Range, m: u32, operand: Operand, at: usize) -> Fitted
-    requires { ⌜ begins at operand ⌝ }
-    ensures { λ r. ⌜ ((l : ℕ) → finished l at r ≡ orElse l range m operand at) ⌝ }
+    requires { ⌜ notBefore at operand ⌝ }
+    ensures { λ r. ⌜ ((l : ℕ) → fittedRead l at r ≡ orElse l range m operand at) ⌝ }
 {
     let Operand::Missing = operand else {
         return fit_required(range, operand, at);

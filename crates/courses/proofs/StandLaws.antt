@@ -1,6 +1,6 @@
 -- What has been taken of a course, seen from a place of its text and the loops open there: a command taken there is the next of the run.
 -- Assumes nothing.
-use Prim.Native.Nat.{ℕ, suc, _+_, _-_, _<_}
+use Prim.Native.Nat.{ℕ, suc, _<_}
 use mathlib.Core.Path.{_≡_, refl, sym, ap, _∙_}
 use mathlib.Core.List.{List, [], _∷_, _++_, append-assoc, append-nil}
 use mathlib.Core.Bool.{Bool, true, false}
@@ -15,7 +15,7 @@ use Rattle.lines.specs.Texts.{these, bareFrom}
 use Rattle.lines.specs.Loops.{Skippable}
 use Rattle.motor.specs.Inputs.{levelThere}
 use Rattle.lines.proofs.TextLaws.{bare-end, bare-at, bare-is}
-use Rattle.courses.specs.Meaning.{Course, ends, plain, skip, jump, loop, written, past, Again, Step, step, Runs, here, end, taken, tested, skipped, left, looped, looping, Rounds, none, more}
+use Rattle.courses.specs.Meaning.{Course, ends, plain, skip, jump, loop, written, behindSkipped, Again, Step, step, Runs, here, end, taken, tested, skipped, left, looped, looping, Rounds, none, more}
 
 -- an open loop: where its body begins, and how often that has run
 pub record Open : Type 0 where
@@ -159,7 +159,7 @@ module _ (t : List ℕ) (whole : Course) (at s : ℕ) {d : Command} {n : ℕ} (e
       Over : ℕ → Type 0
       Over l = Stands t whole l os (xs ++ (step (Skip k) s ∷ []))
 
-      over : levelThere k s ≡ true → (b c : Course) {x y : Command} {l : ℕ} → past c ≡ b → readAt t n ≡ At x l → bareFrom t n ≡ these (y ∷ (written b ++ rest))
+      over : levelThere k s ≡ true → (b c : Course) {x y : Command} {l : ℕ} → behindSkipped c ≡ b → readAt t n ≡ At x l → bareFrom t n ≡ these (y ∷ (written b ++ rest))
           → Inside t whole os xs (skip k c) rest → Over l
       over v b c z q r i = record { course = b; rest = rest; reads = first-read t n q r .1; within = advance (step (Skip k) s ∷ []) (λ w zs y. skipped v (rw z y)) i }
 

@@ -9,7 +9,7 @@ use Rattle.commands.specs.declared.Command.the-variants.{LoopBegin, LoopEnd, Pl
 use Rattle.commands.specs.declared.Act.the-variants.{MoveUp, MoveDown}
 use Rattle.lines.specs.Texts.{structured, these, bareFrom}
 use Rattle.lines.specs.Loops.{Checked}
-use Rattle.lines.specs.Examples.{bytes}
+use Rattle.parts.specs.Letters.{bytes}
 use Rattle.courses.specs.Counting.{counting}
 use Rattle.courses.specs.Meaning.{Course, written, Step, Runs, commandsOf, Steady, unrolled, cost, courseOf, courseIn, commandsIn}
 

@@ -287,10 +287,6 @@ pub read-limited : (most : ℕ) (s rest : List ℕ) (at z n : ℕ) → drop at s
 unfolding operandUpTo
 read-limited most s rest at z n e t = rw (read-length s rest at z n e t, read-back s rest at z n e t)
 
--- the same without leading zeros
-pub read-plain : (s rest : List ℕ) (at n : ℕ) → drop at s ≡ decimal n ++ rest → digitRun rest ≡ [] → operandAt s at ≡ numberTo n (at + length (decimal n))
-read-plain s rest at n e t = read-back s rest at 0 n e t ∙ rw zero-add
-
 pub spelled : (s : List ℕ) (at n next : ℕ) → operandAt s at ≡ Number n next → SpelledAt s at n next
 unfolding operandAt
 spelled s at n next e =

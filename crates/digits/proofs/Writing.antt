@@ -80,9 +80,6 @@ pub decimal-more : (n : ℕ) → 10 ≤ n → decimal n ≡ decimal (n / 10) ++ 
 unfolding decimal ascii
 decimal-more n h = rw (digits-more n h) (ascii-append (digitsOf (n / 10)) (n % 10 ∷ []))
 
-pub decimal-two : (n : ℕ) → 10 ≤ n → n < 100 → decimal n ≡ (48 + n / 10) ∷ (48 + n % 10) ∷ []
-decimal-two n h g = decimal-more n h ∙ ap (λ (l : List ℕ). l ++ ((48 + n % 10) ∷ [])) (decimal-last (n / 10) (omega arith))
-
 -- ---- how many digits
 
 pub length-decimal : (n : ℕ) → length (decimal n) ≡ length (digitsOf n)

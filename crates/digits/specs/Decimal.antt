@@ -5,7 +5,8 @@ use mathlib.Core.Bool.{cond}
 use mathlib.Core.Path.{_≡_}
 use lib.ListN.{length}
 use lib.Dec.{ltb}
-use Rattle.parts.specs.Parts.{room, putIn}
+use Rattle.parts.specs.Parts.{fitsAt, putIn}
+use Rattle.parts.specs.Letters.{byte}
 use Rattle.digits.specs.declared.Written.{Written}
 use Rattle.digits.specs.declared.Written.the-variants.{Past, NoRoom}
 
@@ -18,9 +19,9 @@ digitsIn (suc k) n = let high = digitsIn k (n / 10) in cond (ltb n 10) (n ∷ []
 unfoldable pub digitsOf : ℕ → List ℕ
 digitsOf n = digitsIn (suc n) n
 
--- digits as bytes 30 to 39 hex
+-- digits as bytes `0` to `9`
 unfoldable pub ascii : List ℕ → List ℕ
-ascii ds = map (λ (d : ℕ). 48 + d) ds
+ascii ds = map (λ (d : ℕ). byte "0" + d) ds
 
 -- "in decimal without leading zeros"
 unfoldable pub decimal : ℕ → List ℕ
@@ -28,7 +29,7 @@ decimal n = ascii (digitsOf n)
 
 -- what writing text at a place answers: the place past it, or that there is no room
 abbrev pub writtenAt : List ℕ → ℕ → List ℕ → Written
-writtenAt buffer at text = cond (room buffer at (length text)) (Past (at + length text)) NoRoom
+writtenAt buffer at text = cond (fitsAt buffer at (length text)) (Past (at + length text)) NoRoom
 
 -- the answer and the buffer after text was written at a place; without room nothing changes
 pub record WrittenIs (buffer : List ℕ) (at : ℕ) (text : List ℕ) (answer : Written) (after : List ℕ) : Type 0 where

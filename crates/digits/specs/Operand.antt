@@ -5,17 +5,18 @@ use mathlib.Core.List.{List, [], _∷_}
 use mathlib.Core.Bool.{Bool, true, cond, _&&_}
 use lib.ListN.{length, drop}
 use lib.Dec.{leb}
+use Rattle.parts.specs.Letters.{byte}
 use Rattle.digits.specs.declared.Operand.{Operand}
 use Rattle.digits.specs.declared.Operand.the-variants.{Missing, Number, Above}
 
--- a digit is a byte 30 to 39 hex
+-- a digit is a byte `0` to `9`
 abbrev pub isDigit : ℕ → Bool
-isDigit b = leb 48 b && leb b 57
+isDigit b = leb (byte "0") b && leb b (byte "9")
 
 -- "the longest run of digits" at the head of a list, each as its number
 unfoldable pub digitRun : List ℕ → List ℕ
 digitRun [] = []
-digitRun (b ∷ bs) = cond (isDigit b) ((b - 48) ∷ digitRun bs) []
+digitRun (b ∷ bs) = cond (isDigit b) ((b - byte "0") ∷ digitRun bs) []
 
 -- the number that digits stand for in decimal, behind a number that stands before them
 unfoldable pub valueAfter : ℕ → List ℕ → ℕ

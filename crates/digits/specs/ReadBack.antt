@@ -6,13 +6,14 @@ use mathlib.Core.Path.{_≡_}
 use mathlib.Core.Bool.{cond}
 use lib.Dec.{leb}
 use lib.ListN.{length, drop, replicate}
+use Rattle.parts.specs.Letters.{byte, bytes}
 use Rattle.digits.specs.Operand.{digitRun, valueAfter, numberTo, operandAt, operandMost, operandUpTo}
 use Rattle.digits.specs.Decimal.{decimal}
 use Rattle.digits.specs.declared.Operand.the-variants.{Number, Above}
 
 -- z zeros and then n in decimal, the leading zeros that 01 allows
 abbrev pub spelling : ℕ → ℕ → List ℕ
-spelling z n = replicate z 48 ++ decimal n
+spelling z n = replicate z (byte "0") ++ decimal n
 
 -- n is spelled in s from a place up to `next`, where no digit follows
 pub record SpelledAt (s : List ℕ) (at n next : ℕ) : Type 0 where
@@ -37,9 +38,9 @@ pub record DigitClaims : Type 0 where
   -- a run of digits stands for less than ten to its length
   pub value-below : (s : List ℕ) → valueAfter 0 (digitRun s) < 10 ^ length (digitRun s)
   -- 4294967297 does not become 1, and no longer run wraps
-  pub no-wrap : operandAt (52 ∷ 50 ∷ 57 ∷ 52 ∷ 57 ∷ 54 ∷ 55 ∷ 50 ∷ 57 ∷ 55 ∷ []) 0 ≡ Above 10
-  pub nines : operandAt (replicate 256 57) 0 ≡ Above 256
+  pub no-wrap : operandAt (bytes "4294967297") 0 ≡ Above 10
+  pub nines : operandAt (replicate 256 (byte "9")) 0 ≡ Above 256
   -- ten digits are read, eleven are not, zeros or not
   pub ten : operandUpTo operandMost (spelling 9 5) 0 ≡ Number 5 10
   pub eleven : operandUpTo operandMost (spelling 10 5) 0 ≡ Above 11
-  pub eleven-zeros : operandUpTo operandMost (replicate 11 48) 0 ≡ Above 11
+  pub eleven-zeros : operandUpTo operandMost (replicate 11 (byte "0")) 0 ≡ Above 11

@@ -22,25 +22,23 @@ use Rattle.frames.specs.Receive.{Received, receiverOf, heardWith, receiveOf}
 use Rattle.frames.proofs.Frame as frame
 use Rattle.turns.specs.declared.Core.{Core}
 use Rattle.obeying.specs.declared.Obeyed.{Obeyed}
-use Rattle.obeying.specs.declared.Write.{Write}
 use Rattle.obeying.specs.Obeying.{dataOf, bodyObeyed}
-use Rattle.obeying.specs.Deeds.{Obeys, tells, nothingTold}
+use Rattle.obeying.specs.Deeds.{Obeys, tells, nothing-told}
 use Rattle.obeying.proofs.DeedLaws.{body-does}
 use Rattle.drive.specs.declared.Last.{Last}
 use Rattle.drive.specs.declared.Record.{Record}
-use Rattle.drive.specs.declared.Fed.{Fed}
 use Rattle.drive.specs.declared.FeedAnswer.{FeedAnswer}
 use Rattle.drive.proofs.FeedAnswer as answer
 use Rattle.drive.specs.Unit.{Drive, unitOf}
 use Rattle.drive.specs.Calls.{Feeding, feedRefused, receivedBy, frameObeyed, bodyFor, bodyBy, receivedObeyed, obeyedBy, packetAs, answerTo, answerFor, feedTaken, feedOf}
 use Rattle.drive.specs.Repeats.{lastAfter}
 use Rattle.drive.specs.Promises.{fedWith}
-use Rattle.drive.specs.Steps.{feedAnswer, WrittenIs, PacketOf, sentTo, AnsweredIs}
+use Rattle.drive.specs.Steps.{feedAnswer, WriteDone, PacketOf, sentTo, AnsweredIs}
 
 -- ---- a frame obeyed
 
 pub frame-does : (f : Frame) (body : List ℕ) (c : Core) → Obeys body c (frameObeyed f body c)
-frame-does Frame.Nothing body c = tells _ nothingTold
+frame-does Frame.Nothing body c = tells _ nothing-told
 frame-does Frame.Alone body c = body-does body c
 frame-does Frame.Group body c = body-does body c
 
@@ -124,7 +122,7 @@ module _ (u : Record) (h : Heard) (body text image buffer : List ℕ) where
   -- a completed frame from its steps
   pub frame-fed : {kept text′ image′ buffer′ : List ℕ} {o : Obeyed} {n : ℕ} {last : Last} → kept ≡ bodyFor (u .last) (heardWith h body)
       → o ≡ bodyObeyed kept (u .core)
-      → WrittenIs (o .write) kept text image text′ image′ → AnsweredIs (h .frame) (answerTo (h .framing) o text′) buffer n buffer′
+      → WriteDone (o .write) kept text image text′ image′ → AnsweredIs (h .frame) (answerTo (h .framing) o text′) buffer n buffer′
       → last ≡ lastAfter (h .frame) (h .framing) (o .code) (u .last)
       → fedWith
       (record {

@@ -7,9 +7,9 @@ use Rattle.drive.specs.declared.Record.{Record}
 use Rattle.drive.specs.declared.Started.{Started}
 use Rattle.drive.specs.declared.Fed.{Fed}
 use Rattle.drive.specs.declared.Turned.{Turned}
-use Rattle.drive.specs.Unit.{Drive, unitOf}
-use Rattle.drive.specs.Calls.{Starting, Feeding, Turning, turnOf}
-use Rattle.drive.specs.Promises.{startedWith, fedWith, turnedWith, TurnedIs}
+use Rattle.drive.specs.Unit.{Drive}
+use Rattle.drive.specs.Calls.{Starting, Feeding, Turning}
+use Rattle.drive.specs.Promises.{startedWith, fedWith, TurnedIs}
 
 recordIn : Drive → Record
 recordIn u = record { core = u .core; progress = record { place = u .receiver .place; length = u .receiver .length }; number = u .number; last = u .last }

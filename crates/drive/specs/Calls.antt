@@ -15,11 +15,11 @@ use Rattle.turns.specs.declared.Core.{Core}
 use Rattle.turns.specs.declared.Action.{Action}
 use Rattle.turns.specs.declared.Direction.{Direction}
 use Rattle.turns.specs.declared.Stepped.{Stepped}
-use Rattle.turns.specs.Turns.{freshCore, started, ended, turnCore, textAfter, actionAnswered}
+use Rattle.turns.specs.Turns.{freshCore, started, ended, slotBroken, turnCore, textAfter, actionAnswered}
 use Rattle.answers.specs.Packet.{packet, packetBytes, statusOf}
 use Rattle.answers.specs.Oem.{oemPacket}
 use Rattle.obeying.specs.declared.Obeyed.{Obeyed}
-use Rattle.obeying.specs.Obeying.{dataOf, unheard, bodyObeyed, textWritten, imageWritten}
+use Rattle.obeying.specs.Obeying.{dataOf, nothingObeyed, bodyObeyed, textWritten, imageWritten}
 use Rattle.drive.specs.declared.Last.{Last}
 use Rattle.drive.specs.declared.StartAnswer.{StartAnswer}
 use Rattle.drive.specs.declared.FeedAnswer.{FeedAnswer}
@@ -48,7 +48,7 @@ begunWith n = cond (ltb 0 n) (started n freshCore) freshCore
 -- leaves it idle, the current text empty, holding 1"
 abbrev pub begunOn : Bool → ℕ → Core
 begunOn true n = begunWith n
-begunOn false n = ended 1 freshCore
+begunOn false n = ended slotBroken freshCore
 
 unfoldable pub freshUnit : ℕ → List ℕ → List ℕ → Drive
 freshUnit number image body =
@@ -89,7 +89,7 @@ receivedBy u bytes = receiveOf (u .receiver) (u .number) bytes
 
 -- the body of a completed frame, obeyed
 abbrev pub frameObeyed : Frame → List ℕ → Core → Obeyed
-frameObeyed Frame.Nothing body c = unheard c
+frameObeyed Frame.Nothing body c = nothingObeyed c
 frameObeyed Frame.Alone body c = bodyObeyed body c
 frameObeyed Frame.Group body c = bodyObeyed body c
 

@@ -4,17 +4,19 @@ use Prim.Native.Nat.{ℕ, _%_}
 use mathlib.Core.List.{List, []}
 use mathlib.Core.Bool.{Bool, true, false, cond, not, _&&_, _||_}
 use lib.Dec.{leb, eqb}
+use Rattle.commands.specs.Reading.{malformed, outOfRange}
 use Rattle.lines.specs.declared.Immediate.{Immediate}
 use Rattle.lines.specs.declared.Immediate.the-variants.{Terminate, Status, CurrentText, Position, Speed, Sample, EndlessSpeed, StepSize, Correction, Clear}
 use Rattle.lines.specs.declared.Body.{Body}
 use Rattle.lines.specs.Bodies.{bodyOf}
 use Rattle.frames.specs.declared.Frame.{Frame}
 use Rattle.frames.specs.declared.Framing.{Framing}
+use Rattle.obeying.specs.Obeying.{busy}
 use Rattle.drive.specs.declared.Last.{Last}
 
 -- "a number in its low three bits, with bit 3 for a repeat"
-abbrev pub numberIn : ℕ → ℕ
-numberIn q = q % 8
+abbrev pub sequenceNumber : ℕ → ℕ
+sequenceNumber q = q % 8
 
 abbrev pub repeats : ℕ → Bool
 repeats q = leb 8 (q % 16)
@@ -23,7 +25,7 @@ repeats q = leb 8 (q % 16)
 abbrev pub isRepeat : Last → Framing → Bool
 isRepeat last Framing.Plain = false
 isRepeat Last.Never (Framing.Oem q) = false
-isRepeat (Last.Number n) (Framing.Oem q) = repeats q && eqb (numberIn q) n
+isRepeat (Last.Number n) (Framing.Oem q) = repeats q && eqb (sequenceNumber q) n
 
 -- "a query other than `?9`": `Q`, `$`, `?0 ?2 ?4 ?6 ?7`, and with E3 `?5`
 abbrev pub asks : Immediate → Bool
@@ -55,12 +57,12 @@ chosen last g body = cond (isRepeat last g) (cond (isQuery body) body []) body
 
 -- "refused" with 2, 3 or 15
 abbrev pub isRefusal : ℕ → Bool
-isRefusal code = eqb code 2 || eqb code 3 || eqb code 15
+isRefusal code = eqb code malformed || eqb code outOfRange || eqb code busy
 
 -- "the last OEM frame for this unit or its groups not refused": its number; a plain one leaves it
 abbrev pub numberedBy : Framing → ℕ → Last → Last
 numberedBy Framing.Plain code last = last
-numberedBy (Framing.Oem q) code last = cond (isRefusal code) last (Last.Number (numberIn q))
+numberedBy (Framing.Oem q) code last = cond (isRefusal code) last (Last.Number (sequenceNumber q))
 
 abbrev pub lastAfter : Frame → Framing → ℕ → Last → Last
 lastAfter Frame.Nothing g code last = last

@@ -30,7 +30,7 @@ feedAnswer image buffer =
     cond (ltb (length buffer) packetBytes) FeedAnswer.BufferShort (cond (rightLength image) FeedAnswer.Taken FeedAnswer.ImageLength)
 
 -- what a body has to write, written: the text and the image
-pub record WrittenIs (w : Write) (body text image text′ image′ : List ℕ) : Type 0 where
+pub record WriteDone (w : Write) (body text image text′ image′ : List ℕ) : Type 0 where
   pub to-text : text′ ≡ textWritten w body text
   pub to-image : image′ ≡ imageWritten w body image
 

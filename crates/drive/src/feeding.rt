@@ -10,7 +10,7 @@ ghost use Rattle.drive.specs.Unit.{unitOf};
 ghost use Rattle.drive.specs.declared.FeedAnswer.{FeedAnswer};
 ghost use Rattle.drive.specs.Calls.{feedRefused, bodyFor, feedTaken};
 ghost use Rattle.drive.specs.Promises.{fedWith};
-ghost use Rattle.drive.specs.Steps.{feedAnswer, WrittenIs};
+ghost use Rattle.drive.specs.Steps.{feedAnswer, WriteDone};
 use crate::Fed;
 use crate::FeedAnswer;
 use crate::Record;
@@ -127,7 +127,7 @@ pub(crate) fn feed_frame(
 
 // What a body has to write, written to the text and the image.
 fn apply(w: Write, body: &[u8], text: &mut [u8; crate::TEXT_BYTES], image: &mut [u8])
-    ensures { λ _. ⌜ WrittenIs w (now (body .entry)) (now (text .entry)) (now (image .entry)) (now (text .exit)) (now (image .exit)) ⌝ }
+    ensures { λ _. ⌜ WriteDone w (now (body .entry)) (now (text .entry)) (now (image .entry)) (now (text .exit)) (now (image .exit)) ⌝ }
 {
     match w {
         Write::Nothing => {}

@@ -5,10 +5,10 @@ use mathlib.Core.List.{List, []}
 use mathlib.Core.Bool.{Bool, false, cond}
 use native.Mathlib.Omega.{arith}
 use Rattle.parts.specs.Parts.{same}
+use Rattle.parts.specs.Letters.{bytes}
 use Rattle.commands.specs.Table.{oneOf}
 use Rattle.lines.specs.declared.Body.{Body}
 use Rattle.lines.specs.declared.Immediate.{Immediate}
-use Rattle.lines.specs.Examples.{bytes}
 use Rattle.lines.specs.Bodies.{immediates, immediateIn, bodyOf}
 use Rattle.image.specs.Calls.{afterClear}
 use Rattle.flow.specs.Flow.{begun}
@@ -69,7 +69,7 @@ module _ (c : Core) (text image : List ℕ) where
   is-started = record { runs = refl; text-length-same = refl; first = refl; none-open = refl; not-loaded = refl; code-0 = refl; motor-same = refl; settings-same = refl }
 
   pub each-body : EachBody c text image
-  unfolding bytes bodyOf same oneOf immediates immediateIn stepSize afterClear
+  unfolding bodyOf same oneOf immediates immediateIn stepSize afterClear
   each-body = record {
     empty = makes [] c Tell.Nothing (kind [] Body.Empty refl);
     status = makes (bytes "Q") c Tell.Nothing (kind (bytes "Q") (Body.Immediate Immediate.Status) refl);

@@ -8,8 +8,9 @@ use lib.ListN.{length, getD, replicate, length-append, length-replicate}
 use lib.Seq.{getD-at}
 use lib.Dec.{leb, eqb}
 use borrow.Author.Tests.{leb-true, le-leb, le-ltb, eq-eqb, eqb-true}
-use Rattle.parts.specs.Parts.{same}
+use Rattle.parts.specs.Parts.{same, mostBytes}
 use Rattle.parts.proofs.Laws.{cases}
+use Rattle.parts.specs.Letters.{bytes}
 use Rattle.digits.specs.declared.Operand.the-variants.{Number}
 use Rattle.digits.specs.Operand.{digitRun, widest, operandAt, operandMost, operandUpTo}
 use Rattle.digits.specs.Decimal.{decimal}
@@ -26,8 +27,6 @@ use Rattle.commands.specs.Table.{oneOf, table, find, asksOf, commandOf, within}
 use Rattle.commands.specs.Reading.{readAt}
 use Rattle.commands.specs.Writing.{inRange}
 use Rattle.lines.specs.declared.Body.{Body}
-use Rattle.lines.specs.Examples.{bytes}
-use Rattle.lines.specs.Texts.{mostBytes}
 use Rattle.lines.specs.Bodies.{bodyOf, endsWithR, bodyFault, lineFault}
 use Rattle.image.specs.Image.{slotGood}
 use Rattle.flow.specs.declared.Flowed.{Flowed}

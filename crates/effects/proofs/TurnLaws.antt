@@ -1,12 +1,14 @@
 -- Each turn by itself: the command that stands at the place, or the wait, computes to a few fields of its definition. Assumes nothing.
-use Prim.Native.Nat.{ℕ, _^_, _+_, _-_, _≤_, _<_, min}
+use Prim.Native.Nat.{ℕ, zero, suc, _^_, _+_, _-_, _/_, _%_, _≤_, _<_, min}
 use mathlib.Core.Path.{_≡_, refl, sym, ap, subst, _∙_}
-use mathlib.Core.List.{List}
-use mathlib.Core.Bool.{Bool, true, false, cond, false≢true}
+use mathlib.Core.List.{List, [], _∷_}
+use mathlib.Core.Bool.{Bool, true, false, cond, not, false≢true}
 use native.Mathlib.Omega.{arith}
+use native.Mathlib.Nat.{div-one}
 use lib.ListN.{length, set}
 use lib.Dec.{ltb, leb, eqb}
 use borrow.Author.Tests.{le-ltb, lt-ltb, le-leb, lt-leb, eq-eqb, ne-eqb, eqb-true}
+use Rattle.parts.specs.Parts.{paddedText, mostBytes}
 use Rattle.parts.proofs.Laws.{cases}
 use Rattle.commands.specs.declared.Command.{Command}
 use Rattle.commands.specs.declared.Read.{Read}
@@ -14,7 +16,7 @@ use Rattle.commands.specs.declared.Read.the-variants.{At, Bad, End}
 use Rattle.commands.specs.Table.{top, table, find, commandOf}
 use Rattle.commands.specs.Reading.{readAt}
 use Rattle.commands.proofs.TableLaws.{exponent-complete}
-use Rattle.image.proofs.HeldLaws.{no-text}
+use Rattle.image.proofs.HeldLaws.{no-text, text-fits}
 use Rattle.image.specs.Image.{slotGood, slotText}
 use Rattle.flow.specs.declared.Flow.{Flow}
 use Rattle.flow.specs.declared.Flowed.{Flowed}
@@ -25,15 +27,14 @@ use Rattle.motor.specs.declared.Last.{Last}
 use Rattle.motor.specs.declared.Moved.{Moved}
 use Rattle.motor.specs.declared.Moved.the-variants.{Goes, Stops}
 use Rattle.motor.specs.Inputs.{high, levelThere, falls, cut, clear}
-use Rattle.motor.specs.Motion.{fresh, last, waiting, placedAt, actionOf, room, reported, finite, homed, movedOn, relative, absolute, delayed, held, delayOn, endlessOn, toward, awayOn, towardOn, isFree, stopped, served}
+use Rattle.motor.specs.Motion.{freshMotor, last, waiting, placedAt, actionOf, room, reported, finite, homed, movedOn, relative, absolute, delayed, held, delayOn, endlessOn, toward, awayOn, towardOn, isFree, stopped, served}
 use Rattle.turns.specs.declared.Core.{Core}
 use Rattle.turns.specs.declared.setting.Settings.{Settings}
 use Rattle.turns.specs.declared.Stepped.{Stepped}
 use Rattle.turns.specs.declared.Action.{Action}
-use Rattle.turns.specs.declared.Direction.{Direction}
 use Rattle.commands.specs.declared.Setting.the-variants.{TopSpeed, Acceleration, FlagLevel, Turned, MoveCurrent, HoldCurrent, StepSize, Correction, Outputs, Baud}
 use Rattle.turns.specs.Settings.{defaults, withSetting}
-use Rattle.turns.specs.Turns.{freshCore, started, withFlow, withMotor, withSettings, withEndless, ended, astray, moved, acted, flowed, skipped, jumped, skipTaken, commandTaken, stays, settled, stepOf, turnCore, textAfter, actionAnswered}
+use Rattle.turns.specs.Turns.{freshCore, started, withFlow, withMotor, withSettings, withEndless, ended, astray, moved, acted, flowed, skipped, jumped, skipTaken, commandTaken, stays, settled, stepOf, turnCore, textAfter, directionName, actionAnswered}
 use Rattle.turns.specs.Ends.{Reads}
 use Rattle.turns.proofs.MoveLaws.{clash}
 use Rattle.turns.proofs.TurnLaws.{at-wait, turn-last}
@@ -42,7 +43,7 @@ use Rattle.obeying.specs.Obeying.{textWritten}
 use Rattle.obeying.specs.Deeds.{Obeys, refuses, tells, stores, clears, stops, resumes, speeds, again, loads}
 use Rattle.drive.specs.declared.StartAnswer.{StartAnswer}
 use Rattle.drive.specs.Unit.{Drive, drive}
-use Rattle.drive.specs.Calls.{begunOn, freshUnit, startOf, mostSample, receivedBy, bodyBy, Turning, turnTaken, turnOf}
+use Rattle.drive.specs.Calls.{begunWith, begunOn, freshUnit, startOf, mostSample, receivedBy, bodyBy, Turning, turnTaken, turnOf}
 use Rattle.drive.proofs.StartLaws.{started-unit}
 use Rattle.drive.proofs.FeedLaws.{frame-does}
 use Rattle.keeping.proofs.TurnLaws.{free}
@@ -50,9 +51,11 @@ use Rattle.runs.specs.Reach.{Feed, Turn, after, textOf}
 use Rattle.runs.specs.Causes.{Made}
 use Rattle.runs.proofs.CallLaws.{feed-cases, turn-cases, turn-made}
 use Rattle.runs.proofs.CommandLaws.{turned}
+use Rattle.runs.proofs.SoundLaws.{text-kept}
+use Rattle.answers.specs.Reading.{bit}
 use Rattle.effects.specs.Bodies.{homing}
 use Rattle.effects.specs.Turns as effects
-use Rattle.effects.specs.Turns.{Defaults, HeldAtStart, SameRun, Letter, Keeps, Idles, Flowing, listed, Plainly, SetsOne, then, Takes, here, atFlag, Leads, Sets, ATurn, aTurn, EachCommand, EachWait, Resting, Answers}
+use Rattle.effects.specs.Turns.{Defaults, HeldAtStart, StartsWith, Levels, SameRun, Letter, Keeps, Idles, Flowing, listed, Plainly, SetsOne, then, Takes, here, atFlag, Leads, Sets, ATurn, aTurn, EachCommand, EachWait, Resting, Answers}
 
 -- ---- a fresh start
 
@@ -61,7 +64,7 @@ abbrev Fresh : Core → Type 0
 Fresh c = (u : Drive) → Defaults (drive (u .number) (u .receiver) (u .text) c (u .last))
 
 fresh-core : Fresh freshCore
-unfolding freshCore begun fresh defaults
+unfolding freshCore begun freshMotor defaults
 fresh-core u = record {
   settings = refl;
   sample = refl;
@@ -76,7 +79,7 @@ fresh-core u = record {
 }
 
 started-core : (n : ℕ) → Fresh (started n freshCore)
-unfolding started freshCore begun fresh defaults
+unfolding started freshCore begun freshMotor defaults
 started-core n u = record {
   settings = refl;
   sample = refl;
@@ -92,7 +95,7 @@ started-core n u = record {
 
 -- stopped before it began
 held-core : Fresh (ended 1 freshCore)
-unfolding ended stopped freshCore begun fresh defaults
+unfolding ended stopped freshCore begun freshMotor defaults
 held-core u = record {
   settings = refl;
   sample = refl;
@@ -115,18 +118,51 @@ unfolding freshUnit
 start-defaults number image body text e =
     subst Defaults (sym (started-unit number image body text e)) (on-core (slotGood image 0) (length (slotText image 0)) (freshUnit number image body))
 
+begun-with : (t : List ℕ) (u : Drive) → length t ≤ mostBytes → StartsWith t (drive (u .number) (u .receiver) (paddedText t) (begunWith (length t)) (u .last))
+unfolding started freshCore begun
+begun-with [] u l = record { text = refl; runs = refl; code-0 = refl }
+begun-with (x ∷ xs) u l = rw (lt-ltb 0 (suc (length xs)) (omega arith)) (record { text = text-kept (x ∷ xs) l; runs = sym (lt-ltb 0 (suc (length xs)) (omega arith)); code-0 = refl })
+
 pub starts-good : (number : ℕ) (image body text : List ℕ) → startOf number image body text .answer ≡ StartAnswer.Started → slotGood image 0 ≡ true
-    → startOf number image body text .unit .core .code ≡ 0
-unfolding freshUnit started freshCore
+    → StartsWith (slotText image 0) (startOf number image body text .unit)
+unfolding freshUnit
 starts-good number image body text e g =
-    ap (λ (u : Drive). u .core .code) (started-unit number image body text e)
-    ∙ rw g (cases (λ (c : Core). c .code ≡ 0) (ltb 0 (length (slotText image 0))) (λ q. refl) (λ q. refl))
+    subst (StartsWith (slotText image 0)) (sym (started-unit number image body text e))
+    (rw g (begun-with (slotText image 0) (freshUnit number image body) (text-fits image 0)))
 
 pub starts-held : (number : ℕ) (image body text : List ℕ) → startOf number image body text .answer ≡ StartAnswer.Started → slotGood image 0 ≡ false
     → HeldAtStart (startOf number image body text .unit)
 unfolding freshUnit ended freshCore begun
 starts-held number image body text e g =
     subst HeldAtStart (sym (started-unit number image body text e)) (rw (g, no-text image 0 g) (record { idle = refl; empty = refl; holding = refl }))
+
+-- ---- the inputs
+
+-- a bit is 0 or 1
+low-or-high : (m : ℕ) → m < 2 → eqb m 0 ≡ not (eqb m 1)
+low-or-high zero l = refl
+low-or-high (suc zero) l = refl
+low-or-high (suc (suc m)) l = absurd (omega arith)
+
+low-so : (s i : ℕ) → i < 4 → levelThere (1 + i) s ≡ not (bit i s)
+unfolding levelThere
+low-so s zero l = rw (div-one s) (low-or-high (s % 2) (omega arith))
+low-so s (suc zero) l = low-or-high (s / 2 % 2) (omega arith)
+low-so s (suc (suc zero)) l = low-or-high (s / 4 % 2) (omega arith)
+low-so s (suc (suc (suc zero))) l = low-or-high (s / 8 % 2) (omega arith)
+low-so s (suc (suc (suc (suc i)))) l = absurd (omega arith)
+
+high-so : (s i : ℕ) → i < 4 → levelThere (11 + i) s ≡ bit i s
+unfolding levelThere
+high-so s zero l = rw (div-one s)
+high-so s (suc zero) l = refl
+high-so s (suc (suc zero)) l = refl
+high-so s (suc (suc (suc zero))) l = refl
+high-so s (suc (suc (suc (suc i)))) l = absurd (omega arith)
+
+pub levels : (s : ℕ) → Levels s
+unfolding falls high
+levels s = record { low = low-so s; high = high-so s; fallen = λ before. refl }
 
 -- ---- calls that leave the run where it is
 
@@ -392,6 +428,16 @@ module _ (u : Drive) (sample ms steps : ℕ) (image : List ℕ) (run : u .core .
   flows n effects.skips (next, r) = keeps-to (commandOf 83 n) next r (skip-kept n next (r .free))
   flows n effects.enters (next, r) = keeps-to (commandOf 101 n) next r (jump-kept n (r .free))
 
+  -- `e` that stops the run leaves the text
+  bad-slot : (n : ℕ) → Takes t 101 n → then t .core .running ≡ false → textOf (then t) ≡ textOf u
+  unfolding commandTaken commandOf find table jumped ended
+  bad-slot n (next, r) =
+      subst Left (sym (turned u run sample ms steps image m (commandOf 101 n) next r))
+      (cases (λ (s : Stepped). Left (turnTaken (settled s) image u .unit)) (slotGood image n) (λ q h. clash run h) (λ q h. refl))
+    where
+      Left : Drive → Type 0
+      Left v = v .core .running ≡ false → textOf v ≡ textOf u
+
   pub commands : EachCommand (aTurn u sample ms steps image)
   commands = record {
     set-one = set-one;
@@ -410,6 +456,7 @@ module _ (u : Drive) (sample ms steps : ℕ) (image : List ℕ) (run : u .core .
     to-below = to-below;
     homes-away = homes-away;
     homes-toward = homes-toward;
+    bad-slot = bad-slot;
     flows = flows;
   }
 
@@ -465,6 +512,18 @@ module _ (u : Drive) (sample ms steps : ℕ) (image : List ℕ) (run : u .core .
   edge : (up : Bool) (left : ℕ) → u .core .motor .wait ≡ Wait.Move up true left → falls (u .core .motor .sample) sample ≡ true → Leads t Wait.Nothing (here t) known
   unfolding served endlessOn reported
   edge up left e l = goes-to (Wait.Move up true left) _ _ known (waiting Wait.Nothing now) e refl (rw l) refl refl refl refl
+
+  endless-up-on : (left : ℕ) → u .core .motor .wait ≡ Wait.Move true true left → falls (u .core .motor .sample) sample ≡ false → here t < top
+      → Leads t (Wait.Move true true (top - here t)) (here t) known
+  unfolding served endlessOn reported room
+  endless-up-on left e l h =
+      goes-to (Wait.Move true true left) _ _ known (waiting (Wait.Move true true (top - now .position)) now) e refl (rw (l, ne-eqb (top - now .position) 0 (λ z. omega arith))) refl refl refl refl
+
+  endless-down-on : (left : ℕ) → u .core .motor .wait ≡ Wait.Move false true left → falls (u .core .motor .sample) sample ≡ false → 0 < here t
+      → Leads t (Wait.Move false true (here t)) (here t) known
+  unfolding served endlessOn reported room
+  endless-down-on left e l h =
+      goes-to (Wait.Move false true left) _ _ known (waiting (Wait.Move false true (now .position)) now) e refl (rw (l, ne-eqb (now .position) 0 (λ z. omega arith))) refl refl refl refl
 
   away-on : (left n : ℕ) → u .core .motor .wait ≡ Wait.LegAway left n → atFlag t ≡ true → steps < left → Leads t (Wait.LegAway (left - steps) n) (here t) known
   unfolding served awayOn reported
@@ -554,6 +613,8 @@ module _ (u : Drive) (sample ms steps : ℕ) (image : List ℕ) (run : u .core .
     level-comes = level-comes;
     level-stays = level-stays;
     edge = edge;
+    endless-up-on = endless-up-on;
+    endless-down-on = endless-down-on;
     away-on = away-on;
     away-clear = away-clear;
     toward-on = toward-on;
@@ -569,16 +630,16 @@ module _ (f : ℕ) (l : Last) where
   unfolding actionAnswered
   number-so = cases (λ (a : Action). a .number ≡ l .number) (eqb (l .number) 0) (λ q. sym (eqb-true (l .number) 0 q)) (λ q. refl)
 
-  none-so : l .number ≡ 0 → actionAnswered f l .direction ≡ Direction.Still
+  none-so : l .number ≡ 0 → directionName (actionAnswered f l .direction) ≡ "no direction"
   unfolding actionAnswered
   none-so e = rw (eq-eqb (l .number) 0 e)
 
-  straight-so : (up : Bool) → 0 < l .number → f ≡ 0 → l .up ≡ up → actionAnswered f l .direction ≡ cond up Direction.Up Direction.Down
+  straight-so : (up : Bool) → 0 < l .number → f ≡ 0 → l .up ≡ up → directionName (actionAnswered f l .direction) ≡ cond up "up" "down"
   unfolding actionAnswered
   straight-so true h e q = rw (ne-eqb (l .number) 0 (λ z. omega arith), e, q)
   straight-so false h e q = rw (ne-eqb (l .number) 0 (λ z. omega arith), e, q)
 
-  turned-so : (up : Bool) → 0 < l .number → f ≡ 1 → l .up ≡ up → actionAnswered f l .direction ≡ cond up Direction.Down Direction.Up
+  turned-so : (up : Bool) → 0 < l .number → f ≡ 1 → l .up ≡ up → directionName (actionAnswered f l .direction) ≡ cond up "down" "up"
   unfolding actionAnswered
   turned-so true h e q = rw (ne-eqb (l .number) 0 (λ z. omega arith), e, q)
   turned-so false h e q = rw (ne-eqb (l .number) 0 (λ z. omega arith), e, q)

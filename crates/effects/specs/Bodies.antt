@@ -6,7 +6,7 @@ use mathlib.Core.List.{List, []}
 use mathlib.Core.Bool.{Bool, true, false, cond}
 use lib.ListN.{take}
 use Rattle.digits.specs.Decimal.{decimal}
-use Rattle.lines.specs.Examples.{bytes}
+use Rattle.parts.specs.Letters.{bytes}
 use Rattle.image.specs.Image.{rightLength, emptyImage}
 use Rattle.motor.specs.declared.Wait.{Wait}
 use Rattle.motor.specs.declared.Wait.the-variants.{Nothing, Move, LegAway, LegToward, Delay, Input}

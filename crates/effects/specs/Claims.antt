@@ -4,7 +4,7 @@ use Prim.Native.Nat.{ℕ}
 use mathlib.Core.Path.{_≡_}
 use mathlib.Core.List.{List}
 use mathlib.Core.Bool.{true, false}
-use Rattle.image.specs.Image.{slotGood}
+use Rattle.image.specs.Image.{slotGood, slotText}
 use Rattle.motor.specs.declared.Wait.{Wait}
 use Rattle.turns.specs.declared.Core.{Core}
 use Rattle.drive.specs.Unit.{Drive}
@@ -14,14 +14,14 @@ use Rattle.runs.specs.Reach.{Feed, Turn, after}
 use Rattle.runs.specs.Causes.{Made}
 use Rattle.effects.specs.Bodies.{EachBody}
 use Rattle.effects.specs.Speed.{SpeedClaims}
-use Rattle.effects.specs.Turns.{Defaults, HeldAtStart, SameRun, Idles, aTurn, here, EachCommand, EachWait, Answers}
+use Rattle.effects.specs.Turns.{Defaults, HeldAtStart, StartsWith, Levels, SameRun, Idles, aTurn, here, EachCommand, EachWait, Answers}
 
 pub record EffectClaims : Type 0 where
   pub defaults : (number : ℕ) (image body text : List ℕ) → startOf number image body text .answer ≡ StartAnswer.Started
       → Defaults (startOf number image body text .unit)
-  -- 02, E9: and the held code is 0, but where program 0 counts as bad: "idle, the current text empty, holding 1"
+  -- program 0 runs; 02, E9: but where it counts as bad: "idle, the current text empty, holding 1"
   pub starts-good : (number : ℕ) (image body text : List ℕ) → startOf number image body text .answer ≡ StartAnswer.Started → slotGood image 0 ≡ true
-      → startOf number image body text .unit .core .code ≡ 0
+      → StartsWith (slotText image 0) (startOf number image body text .unit)
   pub starts-held : (number : ℕ) (image body text : List ℕ) → startOf number image body text .answer ≡ StartAnswer.Started → slotGood image 0 ≡ false
       → HeldAtStart (startOf number image body text .unit)
   pub bodies : (c : Core) (text image : List ℕ) → EachBody c text image
@@ -39,5 +39,6 @@ pub record EffectClaims : Type 0 where
       → EachCommand (aTurn u sample ms steps image)
   pub answers : (u : Drive) (sample ms steps : ℕ) (image : List ℕ) → Made u sample steps image
       → Answers (turnOf u sample ms steps image)
+  pub levels : (sample : ℕ) → Levels sample
   -- 02, E3: what sets the endless speed
   pub speed : SpeedClaims

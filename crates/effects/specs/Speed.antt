@@ -7,12 +7,12 @@ use mathlib.Core.Bool.{Bool, true}
 use lib.ListN.{length}
 use Rattle.digits.specs.Decimal.{decimal}
 use Rattle.digits.specs.ReadBack.{spelling}
-use Rattle.lines.specs.Examples.{bytes}
+use Rattle.parts.specs.Letters.{byte, bytes}
+use Rattle.parts.specs.Parts.{mostBytes}
 use Rattle.digits.specs.Operand.{operandMost}
-use Rattle.lines.specs.Texts.{mostBytes}
 use Rattle.image.specs.Image.{rightLength}
 use Rattle.answers.specs.Packet.{packetBytes}
-use Rattle.frames.specs.Receive.{obeyed}
+use Rattle.frames.specs.Receive.{ours}
 use Rattle.motor.specs.declared.Wait.{Wait}
 use Rattle.turns.specs.declared.Core.{Core}
 use Rattle.drive.specs.Unit.{Drive}
@@ -25,7 +25,7 @@ use Rattle.effects.specs.Turns.{Takes, aTurn}
 
 -- "A body of exactly `V`, its operand and `R`", with so many leading zeros
 abbrev pub speedBody : ℕ → ℕ → List ℕ
-speedBody zeros n = 86 ∷ (spelling zeros n ++ (82 ∷ []))
+speedBody zeros n = byte "V" ∷ (spelling zeros n ++ bytes "R")
 
 -- such a line with a good operand, "while an endless move is on"
 pub record OnTheWay (c : Core) (zeros n : ℕ) : Type 0 where
@@ -51,13 +51,13 @@ pub record Sped (n : ℕ) (c d : Core) : Type 0 where
 pub record Hears (u : Drive) (bytes image buffer body : List ℕ) : Type 0 where
   pub buffer-right : packetBytes ≤ length buffer
   pub image-right : rightLength image ≡ true
-  pub frame-ours : obeyed (receivedBy u bytes .frame) ≡ true
+  pub frame-ours : ours (receivedBy u bytes .frame) ≡ true
   pub body-is : bodyBy u bytes ≡ body
 
 -- the letters of `P` and `D`
 pub data Relative : ℕ → Type 0 where
-  up : Relative 80
-  down : Relative 68
+  up : Relative (byte "P")
+  down : Relative (byte "D")
 
 -- the call sets the endless speed of u to n
 pub data SetBy (u : Drive) : Call → ℕ → Type 0 where

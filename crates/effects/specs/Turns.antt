@@ -3,16 +3,18 @@
 use Prim.Native.Nat.{ℕ, _^_, _+_, _-_, _≤_, _<_}
 use mathlib.Core.Path.{_≡_}
 use mathlib.Core.List.{List, [], _∷_}
-use mathlib.Core.Bool.{Bool, true, false, cond, not}
-use lib.ListN.{set}
-use lib.Dec.{eqb}
+use mathlib.Core.Bool.{Bool, true, false, cond, not, _&&_}
+use lib.ListN.{length, set}
+use lib.Dec.{ltb, eqb}
+use Rattle.parts.specs.Letters.{byte}
 use Rattle.commands.specs.declared.Read.the-variants.{At}
 use Rattle.commands.specs.Table.{top, commandOf}
+use Rattle.answers.specs.Reading.{bit}
 use Rattle.motor.specs.declared.Wait.{Wait}
 use Rattle.motor.specs.Inputs.{levelThere, falls}
 use Rattle.motor.specs.Motion.{last}
 use Rattle.turns.specs.declared.setting.Settings.{Settings}
-use Rattle.turns.specs.declared.Direction.{Direction}
+use Rattle.turns.specs.Turns.{directionName}
 use Rattle.turns.specs.Ends.{Reads, positionThen}
 use Rattle.drive.specs.Unit.{Drive}
 use Rattle.drive.specs.Calls.{Turning}
@@ -30,15 +32,15 @@ pub record SameRun (u v : Drive) : Type 0 where
 
 -- their letters, and the place of each among the ten
 pub data Letter : ℕ → ℕ → Type 0 where
-  speed : Letter 86 0
-  acceleration : Letter 76 1
-  flag : Letter 102 2
-  turned : Letter 70 3
-  move-current : Letter 109 4
-  hold-current : Letter 104 5
-  correction : Letter 111 7
-  outputs : Letter 74 8
-  baud : Letter 98 9
+  speed : Letter (byte "V") 0
+  acceleration : Letter (byte "L") 1
+  flag : Letter (byte "f") 2
+  turned : Letter (byte "F") 3
+  move-current : Letter (byte "m") 4
+  hold-current : Letter (byte "h") 5
+  correction : Letter (byte "o") 7
+  outputs : Letter (byte "J") 8
+  baud : Letter (byte "b") 9
 
 -- `V L f F m h j o J b`, of `j` the exponent
 abbrev pub listed : Settings → List ℕ
@@ -74,6 +76,19 @@ pub record HeldAtStart (u : Drive) : Type 0 where
   pub idle : u .core .running ≡ false
   pub empty : textOf u ≡ []
   pub holding : u .core .code ≡ 1
+
+-- "At start a non-empty program 0 becomes the current text and runs; else the current text is empty."
+pub record StartsWith (program : List ℕ) (u : Drive) : Type 0 where
+  pub text : textOf u ≡ program
+  pub runs : u .core .running ≡ ltb 0 (length program)
+  pub code-0 : u .core .code ≡ 0
+
+-- "a sample of inputs 1 to 4 (bits 0 to 3)", and "two digits, level then input": input i + 1, low and high
+pub record Levels (sample : ℕ) : Type 0 where
+  pub low : (i : ℕ) → i < 4 → levelThere (1 + i) sample ≡ not (bit i sample)
+  pub high : (i : ℕ) → i < 4 → levelThere (11 + i) sample ≡ bit i sample
+  -- "when input 2 falls between two samples"
+  pub fallen : (before : ℕ) → falls before sample ≡ bit 1 before && not (bit 1 sample)
 
 -- ---- one turn: u becomes v, with this sample
 
@@ -115,10 +130,10 @@ pub record Idles (u v : Drive) (sample p : ℕ) : Type 0 where
 
 -- the letters of the commands that lead through the text: `g G S e`
 pub data Flowing : ℕ → Type 0 where
-  begins : Flowing 103
-  ends : Flowing 71
-  skips : Flowing 83
-  enters : Flowing 101
+  begins : Flowing (byte "g")
+  ends : Flowing (byte "G")
+  skips : Flowing (byte "S")
+  enters : Flowing (byte "e")
 
 -- a turn of a unit, and what is handed over
 pub record ATurn : Type 0 where
@@ -168,29 +183,31 @@ pub record EachCommand (t : ATurn) : Type 0 where
   -- "`V` 1 to 16777216" and the other settings
   pub set-one : {l i : ℕ} (n : ℕ) → Letter l i → Takes t l n → Sets t i n
   -- "The record keeps the exponent of `j`, 0 to 8"
-  pub set-step : (e : ℕ) → e ≤ 8 → Takes t 106 (2 ^ e) → Sets t 6 e
+  pub set-step : (e : ℕ) → e ≤ 8 → Takes t (byte "j") (2 ^ e) → Sets t 6 e
   -- `z`: the position is that, and known
-  pub placed : (n : ℕ) → Takes t 122 n → Leads t Wait.Nothing n true
+  pub placed : (n : ℕ) → Takes t (byte "z") n → Leads t Wait.Nothing n true
   -- "`M0` ends at once"
-  pub no-delay : Takes t 77 0 → Waits t Wait.Nothing
-  pub delay : (n : ℕ) → 0 < n → Takes t 77 n → Waits t (Wait.Delay n)
+  pub no-delay : Takes t (byte "M") 0 → Waits t Wait.Nothing
+  pub delay : (n : ℕ) → 0 < n → Takes t (byte "M") n → Waits t (Wait.Delay n)
   -- "`H` tests each turn's sample, the first included"
-  pub level-there : (digits : ℕ) → Takes t 72 digits → levelThere digits (t .sample) ≡ true → Waits t Wait.Nothing
-  pub level-awaited : (digits : ℕ) → Takes t 72 digits → levelThere digits (t .sample) ≡ false
+  pub level-there : (digits : ℕ) → Takes t (byte "H") digits → levelThere digits (t .sample) ≡ true → Waits t Wait.Nothing
+  pub level-awaited : (digits : ℕ) → Takes t (byte "H") digits → levelThere digits (t .sample) ≡ false
       → Waits t (Wait.Input digits)
   -- "`A` to the present position ends at once"
-  pub already-there : Takes t 65 (here t) → knownIn t ≡ true → Leads t Wait.Nothing (here t) true
+  pub already-there : Takes t (byte "A") (here t) → knownIn t ≡ true → Leads t Wait.Nothing (here t) true
   -- a finite move within the range
-  pub up : (n : ℕ) → 0 < n → n ≤ top - here t → Takes t 80 n → knownIn t ≡ true → Leads t (Wait.Move true false n) (here t) true
-  pub down : (n : ℕ) → 0 < n → n ≤ here t → Takes t 68 n → knownIn t ≡ true → Leads t (Wait.Move false false n) (here t) true
-  pub to-above : (n : ℕ) → here t < n → n ≤ top → Takes t 65 n → knownIn t ≡ true → Leads t (Wait.Move true false (n - here t)) (here t) true
-  pub to-below : (n : ℕ) → n < here t → Takes t 65 n → knownIn t ≡ true → Leads t (Wait.Move false false (here t - n)) (here t) true
+  pub up : (n : ℕ) → 0 < n → n ≤ top - here t → Takes t (byte "P") n → knownIn t ≡ true → Leads t (Wait.Move true false n) (here t) true
+  pub down : (n : ℕ) → 0 < n → n ≤ here t → Takes t (byte "D") n → knownIn t ≡ true → Leads t (Wait.Move false false n) (here t) true
+  pub to-above : (n : ℕ) → here t < n → n ≤ top → Takes t (byte "A") n → knownIn t ≡ true → Leads t (Wait.Move true false (n - here t)) (here t) true
+  pub to-below : (n : ℕ) → n < here t → Takes t (byte "A") n → knownIn t ≡ true → Leads t (Wait.Move false false (here t - n)) (here t) true
   -- "`P0`, `D0` are endless: greatest number is the distance to the end of the range"
-  pub endless-up : Takes t 80 0 → knownIn t ≡ true → Leads t (Wait.Move true true (top - here t)) (here t) true
-  pub endless-down : Takes t 68 0 → knownIn t ≡ true → Leads t (Wait.Move false true (here t)) (here t) true
+  pub endless-up : Takes t (byte "P") 0 → knownIn t ≡ true → Leads t (Wait.Move true true (top - here t)) (here t) true
+  pub endless-down : Takes t (byte "D") 0 → knownIn t ≡ true → Leads t (Wait.Move false true (here t)) (here t) true
   -- `Z n`: "If cut, move away at most 10,000 ..; then toward zero at most n", and 400 more by E2
-  pub homes-away : (n : ℕ) → Takes t 90 n → atFlag t ≡ true → Waits t (Wait.LegAway 10000 n)
-  pub homes-toward : (n : ℕ) → n ≤ top → Takes t 90 n → atFlag t ≡ false → Waits t (Wait.LegToward (n + 400))
+  pub homes-away : (n : ℕ) → Takes t (byte "Z") n → atFlag t ≡ true → Waits t (Wait.LegAway 10000 n)
+  pub homes-toward : (n : ℕ) → n ≤ top → Takes t (byte "Z") n → atFlag t ≡ false → Waits t (Wait.LegToward (n + 400))
+  -- "`e` makes the slot's text the current text (not where it stops the run with 1)"
+  pub bad-slot : (n : ℕ) → Takes t (byte "e") n → then t .core .running ≡ false → textOf (then t) ≡ textOf (t .unit)
   -- `g`, `G`, `S` and `e`: where they lead is said of whole runs, and they touch no setting and not the position
   pub flows : {l : ℕ} (n : ℕ) → Flowing l → Takes t l n → Keeps (t .unit) (then t) (t .sample) (here t)
 
@@ -212,6 +229,11 @@ pub record EachWait (t : ATurn) : Type 0 where
   -- an endless move ends "when input 2 falls between two samples"
   pub edge : (up : Bool) (left : ℕ) → waitOf t ≡ Wait.Move up true left → falls (t .unit .core .motor .sample) (t .sample) ≡ true
       → Waits t Wait.Nothing
+  -- else it goes on, while there is range left: "greatest number is the distance to the end of the range"
+  pub endless-up-on : (left : ℕ) → waitOf t ≡ Wait.Move true true left → falls (t .unit .core .motor .sample) (t .sample) ≡ false → here t < top
+      → Waits t (Wait.Move true true (top - here t))
+  pub endless-down-on : (left : ℕ) → waitOf t ≡ Wait.Move false true left → falls (t .unit .core .motor .sample) (t .sample) ≡ false → 0 < here t
+      → Waits t (Wait.Move false true (here t))
   -- away "until clear; then toward zero": "steps count before the sample"
   pub away-on : (left n : ℕ) → waitOf t ≡ Wait.LegAway left n → atFlag t ≡ true → t .steps < left → Waits t (Wait.LegAway (left - t .steps) n)
   pub away-clear : (left n : ℕ) → n ≤ top → waitOf t ≡ Wait.LegAway left n → atFlag t ≡ false → Waits t (Wait.LegToward (n + 400))
@@ -232,11 +254,11 @@ pub data Resting : Wait → Type 0 where
 -- ---- the action: "direction and greatest number of microsteps. A number of 0 has no direction."; "`F1` turns the direction of every action"
 pub record Answers (r : Turning) : Type 0 where
   pub number : r .action .number ≡ r .unit .core .motor .last .number
-  pub none : r .unit .core .motor .last .number ≡ 0 → r .action .direction ≡ Direction.Still
+  pub none : r .unit .core .motor .last .number ≡ 0 → directionName (r .action .direction) ≡ "no direction"
   pub straight : (up : Bool) → 0 < r .unit .core .motor .last .number → r .unit .core .settings .turned ≡ 0 → r .unit .core .motor .last .up ≡ up
-      → r .action .direction ≡ cond up Direction.Up Direction.Down
+      → directionName (r .action .direction) ≡ cond up "up" "down"
   pub turned : (up : Bool) → 0 < r .unit .core .motor .last .number → r .unit .core .settings .turned ≡ 1 → r .unit .core .motor .last .up ≡ up
-      → r .action .direction ≡ cond up Direction.Down Direction.Up
+      → directionName (r .action .direction) ≡ cond up "down" "up"
   -- what is waited for is what is answered; "homing steps do not count in the position"
   pub move : (up endless : Bool) (left : ℕ) → r .unit .core .motor .wait ≡ Wait.Move up endless left → r .unit .core .motor .last ≡ last up left true
   pub leg : homing (r .unit .core .motor .wait) ≡ true → r .unit .core .motor .last .counts ≡ false

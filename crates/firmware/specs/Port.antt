@@ -10,7 +10,7 @@ use Rattle.forecast.specs.declared.Counted.the-variants.{Commands, Refused, Let
 use Rattle.forecast.specs.Count.{countOf}
 use Rattle.image.specs.Calls.{checkedOf, checkedNumber}
 use Rattle.ramp.specs.declared.Figures.{Figures}
-use Rattle.ramp.specs.Ramp.{figuresOf, codeOf}
+use Rattle.ramp.specs.Ramp.{figuresOf, verdictNumber}
 
 -- a stored text: 0 good, 1 bad
 abbrev pub goodNumber : Bool → ℕ
@@ -25,16 +25,16 @@ unfoldable pub imageNumber : List ℕ → ℕ
 imageNumber image = checkedNumber (checkedOf image)
 
 -- "finite, with N .., or endless": any number but 0 is endless
-abbrev pub isEndless : ℕ → Bool
-isEndless endless = not (eqb endless 0)
+abbrev pub saysEndless : ℕ → Bool
+saysEndless endless = not (eqb endless 0)
 
 -- the figures of a ramp
 abbrev pub figures : ℕ → ℕ → ℕ → ℕ → Figures
-figures v l endless n = figuresOf v l (isEndless endless) n
+figures v l endless n = figuresOf v l (saysEndless endless) n
 
 -- 0 taken; 1, 2, 3 where V, L, N is refused
 unfoldable pub rampNumber : ℕ → ℕ → ℕ → ℕ → ℕ
-rampNumber v l endless n = codeOf (figures v l endless n .verdict)
+rampNumber v l endless n = verdictNumber (figures v l endless n .verdict)
 
 -- 2^63: no count is so great, so the numbers from here on are refusals
 abbrev pub uncounted : ℕ

@@ -1,9 +1,8 @@
 -- A flow over a checked text: the open loops are those that enclose its place, and no command goes astray.
 -- Assumes nothing.
 use Prim.Native.Nat.{ℕ, zero, suc, _-_, _≤_, _<_}
-use mathlib.Core.Path.{_≡_, refl, sym, ap, _∙_}
+use mathlib.Core.Path.{_≡_, refl, ap}
 use mathlib.Core.List.{List}
-use mathlib.Core.Bool.{true}
 use native.Mathlib.Omega.{arith}
 use native.Mathlib.Numerals.{add-one}
 use lib.Dec.{eqb}
@@ -14,11 +13,10 @@ use Rattle.parts.proofs.Laws.{cases}
 use Rattle.commands.specs.declared.Command.{Command}
 use Rattle.commands.specs.declared.Command.the-variants.{LoopBegin, LoopEnd, Skip, Jump, Plain}
 use Rattle.commands.specs.declared.Fault.{Fault}
-use Rattle.commands.specs.declared.Read.the-variants.{At, Bad, End}
+use Rattle.commands.specs.declared.Read.the-variants.{At, Bad}
 use Rattle.commands.specs.Reading.{readAt}
-use Rattle.commands.proofs.ReadingLaws.{read-step}
 use Rattle.lines.specs.Texts.{mostOpen}
-use Rattle.lines.specs.Loops.{Enclosed, start, next, after, enclosing, Checked, Skippable}
+use Rattle.lines.specs.Loops.{Enclosed, start, next, openAfter, enclosing, Checked, Skippable}
 use Rattle.lines.proofs.LoopLaws.{lawful, at-most-four, backs, enclosed-by}
 use Rattle.flow.specs.declared.Flow.{Flow}
 use Rattle.flow.specs.Flow.{begun, gone, opened, again, bumped, backed, left, closed, goes, loopBegun, loopEnded, opens}
@@ -59,7 +57,7 @@ begun-ok h = record { checked = h; place = start; starts4 = refl; dones4 = refl;
 
 -- gone on behind a command that opens and closes nothing
 pub gone-ok : {t : List ℕ} {f : Flow} {c : Command} {n : ℕ} → FlowOk t f → readAt t (f .at) ≡ At c n
-    → after c n (opens (f .depth) (f .starts)) ≡ opens (f .depth) (f .starts) → FlowOk t (gone n f)
+    → openAfter c n (opens (f .depth) (f .starts)) ≡ opens (f .depth) (f .starts) → FlowOk t (gone n f)
 gone-ok {t} {f} {c} {n} h e q =
     record { checked = h .checked; place = rw q at (next c n (h .place) e); starts4 = h .starts4; dones4 = h .dones4; length = h .length }
 
@@ -78,19 +76,8 @@ skipped-ok {t} {f} {k} {n} {l} {c} h e q = go c q (rw q at (rw e at (lawful (h .
 pub exactly : {t : List ℕ} {f : Flow} → FlowOk t f → opens (f .depth) (f .starts) ≡ enclosing t (f .at)
 exactly h = enclosed-by (h .place)
 
-pub place-within : {t : List ℕ} {f : Flow} → FlowOk t f → f .at ≤ length t
-place-within {t} {f} h = go (h .place)
-  where
-    go : {at : ℕ} {st : List ℕ} → Enclosed t at st → at ≤ length t
-    go start = omega arith
-    go (next {at = a} c n p e) = read-step t a e .1
-
 pub no-fault : {t : List ℕ} {f : Flow} {x : Fault} → FlowOk t f → readAt t (f .at) ≡ Bad x → ⊥
 no-fault {t} {f} {x} h e = rw e at (lawful (h .checked) (h .place))
-
--- "all closed at the end"
-pub end-closed : {t : List ℕ} {f : Flow} → FlowOk t f → readAt t (f .at) ≡ End → f .depth ≡ 0
-end-closed {t} {f} h e = sym (opens-length (f .depth) (f .starts)) ∙ rw e at (lawful (h .checked) (h .place))
 
 -- ---- a loop begun
 

@@ -1,53 +1,29 @@
 -- What a body is, and what is answered of it: the line check's code, nothing to count, or its text. Assumes nothing.
-use Prim.Native.Nat.{ℕ, _≤_}
-use mathlib.Core.Path.{_≡_, refl, sym, subst, _∙_}
-use mathlib.Core.List.{List, [], _∷_}
-use mathlib.Core.Bool.{Bool, true, false, cond, false≢true}
-use native.Mathlib.Omega.{arith}
-use lib.ListN.{length, take}
-use lib.Dec.{ltb, eqb}
-use borrow.Author.Tests.{ne-eqb, ltb-false}
-use Rattle.parts.specs.Parts.{part, same}
-use Rattle.parts.proofs.Laws.{cases}
+use Prim.Native.Nat.{ℕ}
+use mathlib.Core.Path.{_≡_, refl, sym, subst}
+use mathlib.Core.List.{List, []}
+use mathlib.Core.Bool.{false≢true}
+use lib.ListN.{take}
+use borrow.Author.Tests.{ne-eqb}
+use Rattle.parts.specs.Parts.{part}
 use Rattle.commands.specs.declared.Fault.{Fault}
 use Rattle.commands.specs.Table.{oneOf}
-use Rattle.commands.specs.Reading.{fault, readBy}
+use Rattle.commands.specs.Reading.{readBy}
 use Rattle.lines.specs.declared.Body.{Body}
 use Rattle.lines.specs.declared.Taken.{Taken}
-use Rattle.lines.specs.Texts.{readingIn, readingBy, unplaced, faultPlaces, lineJudged, mostBytes}
-use Rattle.lines.specs.Bodies.{Row, immediates, immediateIn, beginsImmediate, otherOf, bodyOf, lineOf, takenFault, bodyFault, bodyCode, lineFault}
+use Rattle.lines.specs.Texts.{readingIn, readingBy, unplaced, faultPlaces, lineJudged}
+use Rattle.lines.specs.Bodies.{bodyOf, lineOf, takenFault, bodyFault, bodyCode, lineFault}
 use Rattle.lines.specs.Loops.{Checked}
-use Rattle.lines.proofs.CodeLaws.{Code, two, TakenCode, taken-code}
+use Rattle.lines.proofs.CodeLaws.{Code, TakenCode, taken-code, BodyCode, body-code}
 use Rattle.lines.proofs.TakenLaws.{held, stored, text-checked}
+use Rattle.lines.proofs.SpellLaws.{line-short}
 use Rattle.courses.specs.Meaning.{tailOf, courseOf, cost, courseIn, commandsIn}
 use Rattle.forecast.specs.declared.Counted.{Counted}
 use Rattle.forecast.specs.Count.{anyBarred, countText, takenText, textIn, bodyText, unlessRefused, countOf}
-use Rattle.forecast.specs.Pass.{textCounted, takenCounted, lineCounted}
+use Rattle.forecast.specs.Pass.{takenCounted, lineCounted}
 use Rattle.forecast.proofs.CountLaws.{text-counted}
 
 -- ---- the line check's code
-
-abbrev BodyTwo : Body → Type 0
-BodyTwo (Body.Refused f) = Code f
-BodyTwo Body.Empty = Unit
-BodyTwo (Body.Immediate i) = Unit
-BodyTwo Body.Run = Unit
-BodyTwo Body.Again = Unit
-BodyTwo Body.Line = Unit
-
-immediate-two : (rs : List Row) (b : List ℕ) → BodyTwo (immediateIn rs b)
-unfolding immediateIn
-immediate-two [] b = two
-immediate-two (r ∷ rs) b = cases BodyTwo (same b (r .bytes)) (λ e. tt) (λ e. immediate-two rs b)
-
-other-two : (b : List ℕ) → BodyTwo (otherOf b)
-other-two b = cases BodyTwo (same b []) (λ e. tt) (λ e. cases BodyTwo (same b (82 ∷ [])) (λ e. tt) (λ e. cases BodyTwo (same b (88 ∷ [])) (λ e. tt) (λ e. tt)))
-
-body-two : (b : List ℕ) → BodyTwo (bodyOf b)
-unfolding bodyOf
-body-two b =
-    cases BodyTwo (ltb mostBytes (length b)) (λ e. two)
-    (λ e. cases BodyTwo (beginsImmediate b) (λ e. immediate-two immediates b) (λ e. other-two b))
 
 no-zero : (f : Fault) → Code f → f .code ≡ 0 → ⊥
 unfolding oneOf
@@ -60,7 +36,7 @@ told-fault b f h e =
 
 pub body-refused : (b : List ℕ) (f : Fault) → bodyOf b ≡ Body.Refused f → Counted.Refused f ≡ countOf b
 unfolding lineFault
-body-refused b f e = told-fault b f (subst BodyTwo e (body-two b)) (rw e)
+body-refused b f e = told-fault b f (subst BodyCode e (body-code b)) (rw e)
 
 -- ---- nothing to count
 
@@ -79,22 +55,6 @@ body-none b k e c t =
 
 -- ---- a line or a store
 
-abbrev NotRefused : Body → Type 0
-NotRefused (Body.Refused f) = ⊥
-NotRefused Body.Empty = Unit
-NotRefused (Body.Immediate i) = Unit
-NotRefused Body.Run = Unit
-NotRefused Body.Again = Unit
-NotRefused Body.Line = Unit
-
-short : (b : List ℕ) → bodyOf b ≡ Body.Line → length b ≤ mostBytes
-unfolding bodyOf
-short b e = go (ltb mostBytes (length b)) refl e
-  where
-    go : (o : Bool) → ltb mostBytes (length b) ≡ o → cond o (Body.Refused (fault 2 0)) (cond (beginsImmediate b) (immediateIn immediates b) (otherOf b)) ≡ Body.Line → length b ≤ mostBytes
-    go true z h = absurd (subst NotRefused (sym h) tt)
-    go false z h = ltb-false _ _ z
-
 line-code : (b : List ℕ) → TakenCode (lineOf b)
 unfolding lineOf
 line-code b = taken-code _ _
@@ -108,7 +68,7 @@ body-line b e =
     go : (x : Taken) → lineOf b ≡ x → takenCounted x b ≡ unlessRefused (takenFault x) (countText (takenText x b))
     go (Taken.Refused f) z = rw (ne-eqb (f .code) 0 (no-zero f (subst TakenCode z (line-code b))))
     go (Taken.Line n run) z = text-counted (take n b) (held b n run z .checked)
-    go (Taken.Store slot at n) z = text-counted (part b at n) (text-checked _ (stored b slot at n z (short b e) .good))
+    go (Taken.Store slot at n) z = text-counted (part b at n) (text-checked _ (stored b slot at n z (line-short b e) .good))
 
 -- ---- the text of a body passed the check, whatever the body is
 
@@ -123,7 +83,7 @@ text-of-checked b = go (bodyOf b) refl
     line : (x : Taken) → bodyOf b ≡ Body.Line → lineOf b ≡ x → Checked (takenText x b)
     line (Taken.Refused f) e z = empty-checked
     line (Taken.Line n run) e z = held b n run z .checked
-    line (Taken.Store slot at n) e z = text-checked _ (stored b slot at n z (short b e) .good)
+    line (Taken.Store slot at n) e z = text-checked _ (stored b slot at n z (line-short b e) .good)
 
     go : (k : Body) → bodyOf b ≡ k → Checked (textIn k b)
     go (Body.Refused f) e = empty-checked

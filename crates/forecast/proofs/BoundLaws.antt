@@ -37,6 +37,10 @@ past-already top a m l = let h : top < a + m = omega arith in sym (lt-leb _ _ h)
 pub at-least : (n m : ℕ) → 0 < n → m ≤ n * m
 at-least n m p = let h : 1 * m ≤ n * m = mul-le-mul-right m p in omega arith
 
+pub some : (n : ℕ) → (n ≡ 0 → ⊥) → 0 < n
+some zero p = absurd (p refl)
+some (suc n) p = omega arith
+
 -- so nothing on the way is over the bound either
 pub all-within : (top a h n : ℕ) → (n ≡ 0 → ⊥) → leb (a + n * (h + 1)) top ≡ true → (h + 1 ≤ top) × (n * (h + 1) ≤ top) × (a + n * (h + 1) ≤ top)
 all-within top a h n p e =
@@ -44,7 +48,3 @@ all-within top a h n p e =
     let o : 0 < n = some n p in
     let m = at-least n (h + 1) o in
     (omega arith, omega arith, l)
-  where
-    some : (k : ℕ) → (k ≡ 0 → ⊥) → 0 < k
-    some zero q = absurd (q refl)
-    some (suc k) q = omega arith

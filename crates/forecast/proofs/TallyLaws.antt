@@ -14,7 +14,7 @@ use Rattle.lines.specs.Texts.{Reading, commands, faulty, placed, unplaced, befo
 use Rattle.lines.proofs.TextLaws.{reading-law}
 use Rattle.forecast.specs.declared.Counted.the-variants.{Refused}
 use Rattle.forecast.specs.declared.Tally.{Tally}
-use Rattle.forecast.specs.Pass.{tally, tallied, tallyOn, told, toldOn, textCounted}
+use Rattle.forecast.specs.Pass.{tally, tallied, tallyOn, tallyTold, toldOn, textCounted}
 
 pub record Tallying (t : List ℕ) (y : Tally) (at : ℕ) : Type 0 where
   pub same : textCounted t ≡ toldOn y (readingFrom t at)
@@ -36,6 +36,6 @@ tally-on {t} {y} {at} {c} {n} h e =
 pub tally-bad : {t : List ℕ} {y : Tally} {at : ℕ} {f : Fault} → Tallying t y at → readAt t at ≡ Bad f → Refused f ≡ textCounted t
 tally-bad {t} {y} {at} h e = sym (h .same ∙ rw (reading-law t at, e))
 
-pub tally-end : {t : List ℕ} {y : Tally} {at : ℕ} → Tallying t y at → readAt t at ≡ End → told y ≡ textCounted t
+pub tally-end : {t : List ℕ} {y : Tally} {at : ℕ} → Tallying t y at → readAt t at ≡ End → tallyTold y ≡ textCounted t
 unfolding tallyOn unplaced
 tally-end {t} {y} {at} h e = sym (h .same ∙ rw (reading-law t at, e))

@@ -7,10 +7,8 @@ use lib.Dec.{leb, eqb}
 use borrow.Author.Tests.{leb-true, eqb-false}
 use Rattle.commands.specs.declared.Command.{Command}
 use Rattle.commands.specs.declared.Command.the-variants.{LoopEnd}
-use Rattle.commands.specs.Reading.{fault}
 use Rattle.lines.specs.Texts.{bareFrom}
 use Rattle.lines.specs.Bodies.{lineFault}
-use Rattle.lines.specs.Loops.{Checked}
 use Rattle.courses.specs.Meaning.{Course, ends, plain, skip, jump, loop, written, Steady, courseIn, commandsIn}
 use Rattle.courses.proofs.CourseLaws.{text-course}
 use Rattle.courses.proofs.SteadyLaws.{costs}

@@ -7,7 +7,7 @@ use Rattle.lines.specs.Loops.{Checked}
 use Rattle.courses.specs.Meaning.{Steady, unrolled, courseIn}
 use Rattle.forecast.specs.declared.Counted.the-variants.{Commands}
 use Rattle.forecast.specs.Count.{mostCounted, bodyText, countOf}
-use Rattle.forecast.specs.Examples.{examples, counts, given}
+use Rattle.forecast.specs.Examples.{countExamples, counts, given}
 
 -- of a body that is told k
 pub record Told (b : List ℕ) (k : ℕ) : Type 0 where
@@ -21,4 +21,4 @@ pub record Told (b : List ℕ) (k : ℕ) : Type 0 where
 
 pub record ForecastClaims : Type 0 where
   pub told : (b : List ℕ) (k : ℕ) → countOf b ≡ Commands k → Told b k
-  pub edges : counts examples ≡ given examples
+  pub edges : counts countExamples ≡ given countExamples

@@ -1,6 +1,7 @@
 -- How many commands a run of a text takes when nothing stops it. 02, E14: "how many commands will it take?".
 -- Assumes nothing.
 use Prim.Native.Nat.{ℕ}
+use Prim.Native.String.{String}
 use mathlib.Core.List.{List, [], _∷_}
 use mathlib.Core.Bool.{Bool, true, false, cond, _||_}
 use lib.ListN.{take}
@@ -82,3 +83,10 @@ unlessRefused f c = cond (eqb (f .code) 0) c (Refused f)
 
 unfoldable pub countOf : List ℕ → Counted
 countOf b = unlessRefused (lineFault b) (countText (bodyText b))
+
+-- the name of each answer
+abbrev pub countedName : Counted → String
+countedName (Commands k) = "so many commands"
+countedName (Refused f) = "the line check's code"
+countedName Letter = "a letter from that list"
+countedName TooMany = "a count over 2^63 − 1"

@@ -29,29 +29,29 @@ exceeded t = tally (t .here) (t .first) (t .second) (t .third) (t .fourth) (t .l
 abbrev pub raised : ℕ → Tally → Tally
 raised h t = tally h (t .first) (t .second) (t .third) (t .fourth) (t .letter) (t .over)
 
-abbrev pub oneMore : Tally → Tally
-oneMore t = cond (ltb (t .here) mostCounted) (raised (t .here + 1) t) (exceeded t)
+abbrev pub tallyMore : Tally → Tally
+tallyMore t = cond (ltb (t .here) mostCounted) (raised (t .here + 1) t) (exceeded t)
 
 -- `g`: the counts move up, and the innermost is 0
-abbrev pub opened : Tally → Tally
-opened t = tally 0 (t .here) (t .first) (t .second) (t .third) (t .letter) (t .over)
+abbrev pub tallyOpened : Tally → Tally
+tallyOpened t = tally 0 (t .here) (t .first) (t .second) (t .third) (t .letter) (t .over)
 
 -- `G n`: they move down, and the innermost is what stood around the loop with the loop's cost
 abbrev pub lowered : ℕ → Tally → Tally
 lowered h t = tally h (t .second) (t .third) (t .fourth) 0 (t .letter) (t .over)
 
-abbrev pub closedBy : ℕ → Tally → Tally
-closedBy n t = cond (leb (t .first + n * (t .here + 1)) mostCounted) (lowered (t .first + n * (t .here + 1)) t) (exceeded t)
+abbrev pub tallyClosed : ℕ → Tally → Tally
+tallyClosed n t = cond (leb (t .first + n * (t .here + 1)) mostCounted) (lowered (t .first + n * (t .here + 1)) t) (exceeded t)
 
 abbrev pub loopClosed : Tally → ℕ → Tally
-loopClosed t n = cond (eqb n 0) (marked t) (closedBy n t)
+loopClosed t n = cond (eqb n 0) (marked t) (tallyClosed n t)
 
 abbrev pub plainTallied : Tally → Act → Tally
-plainTallied t a = cond (barredAct a) (marked t) (oneMore t)
+plainTallied t a = cond (barredAct a) (marked t) (tallyMore t)
 
 -- one command more
 abbrev pub tallied : Tally → Command → Tally
-tallied t LoopBegin = opened (oneMore t)
+tallied t LoopBegin = tallyOpened (tallyMore t)
 tallied t (LoopEnd n) = loopClosed t n
 tallied t (Skip i) = marked t
 tallied t (Jump i) = marked t
@@ -62,11 +62,11 @@ tallyOn t [] = t
 tallyOn t (d ∷ ds) = tallyOn (tallied t d) ds
 
 -- at the end
-abbrev pub told : Tally → Counted
-told t = cond (t .letter) Letter (cond (t .over) TooMany (Commands (t .here)))
+abbrev pub tallyTold : Tally → Counted
+tallyTold t = cond (t .letter) Letter (cond (t .over) TooMany (Commands (t .here)))
 
 abbrev pub toldOn : Tally → Reading → Counted
-toldOn t (commands ds) = told (tallyOn t (unplaced ds))
+toldOn t (commands ds) = tallyTold (tallyOn t (unplaced ds))
 toldOn t (faulty f) = Refused f
 
 unfoldable pub textCounted : List ℕ → Counted

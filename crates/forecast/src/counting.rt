@@ -3,7 +3,7 @@ ghost use mathlib.Core.Path.{_≡_};
 ghost use Prim.Native.Nat.{_+_, _*_, _<_};
 ghost use lib.Dec.{leb};
 ghost use Rattle.forecast.specs.Count.{mostCounted, barredAct};
-ghost use Rattle.forecast.specs.Pass.{marked, exceeded, oneMore, opened, loopClosed, plainTallied, tallied, told, textCounted};
+ghost use Rattle.forecast.specs.Pass.{marked, exceeded, tallyMore, tallyOpened, loopClosed, plainTallied, tallied, tallyTold, textCounted};
 use crate::Counted;
 use crate::Tally;
 use commands::Act;
@@ -68,7 +68,7 @@ fn mark(t: Tally) -> Tally
 
 // A command that is taken once, each time that it stands next.
 fn one_more(t: Tally) -> Tally
-    ensures { λ r. ⌜ r ≡ oneMore t ⌝ }
+    ensures { λ r. ⌜ r ≡ tallyMore t ⌝ }
 {
     let mut u = t;
     if t.here < MOST {
@@ -107,7 +107,7 @@ fn is_barred(a: Act) -> bool
 
 // A loop begins: its `g` is counted outside, and its body has cost nothing yet.
 fn begin_loop(t: Tally) -> Tally
-    ensures { λ r. ⌜ r ≡ opened (oneMore t) ⌝ }
+    ensures { λ r. ⌜ r ≡ tallyOpened (tallyMore t) ⌝ }
 {
     let u = one_more(t);
     Tally {
@@ -166,7 +166,7 @@ fn exceed(t: Tally) -> Tally
 
 // The answer at the end of a text.
 fn tell(t: Tally) -> Counted
-    ensures { λ r. ⌜ r ≡ told t ⌝ }
+    ensures { λ r. ⌜ r ≡ tallyTold t ⌝ }
 {
     if t.letter {
         return Counted::Letter;

@@ -7,7 +7,7 @@ use Rattle.runs.specs.Reach.{Reached, textOf}
 use Rattle.courses.specs.Meaning.{Step, Steady, courseIn, commandsIn}
 use Rattle.courses.proofs.SteadyLaws.{costs}
 use Rattle.schedule.specs.Ran.{Begins, Ran}
-use Rattle.schedule.specs.Claims.{Counted, ScheduleClaims}
+use Rattle.schedule.specs.Claims.{RunsCounted, ScheduleClaims}
 use Rattle.forecast.specs.declared.Counted.the-variants.{Commands}
 use Rattle.forecast.specs.Count.{bodyText, countOf}
 use Rattle.forecast.specs.Claims.{ForecastClaims}
@@ -19,6 +19,6 @@ unfolding commandsIn
 comes-true f s {u} {v} {xs} b k e r g same ran =
     let h = f .told b k e in
     let w : Steady (courseIn (textOf u)) = subst (λ (t : List ℕ). Steady (courseIn t)) (sym same) (h .steady) in
-    let c : Counted (bodyText b) xs v = subst (λ (t : List ℕ). Counted t xs v) same (s .counted r g w ran) in
+    let c : RunsCounted (bodyText b) xs v = subst (λ (t : List ℕ). RunsCounted t xs v) same (s .counted r g w ran) in
     let n : commandsIn (bodyText b) ≡ k = sym (costs (courseIn (bodyText b))) ∙ h .length-of in
     record { no-more = rw n at (c .no-more); exactly = λ q. c .exactly q ∙ n; left = c .left; in-order = c .in-order }

@@ -1,6 +1,6 @@
 -- Two receivers at one place, with the same bytes of a body that counts, go on alike: what earlier frames left is never told.
 -- Assumes nothing.
-use Prim.Native.Nat.{ℕ, _+_, _≤_, _<_}
+use Prim.Native.Nat.{ℕ, _+_, _<_}
 use native.Mathlib.Numerals.{add-one}
 use native.Mathlib.Omega.{arith}
 use mathlib.Core.Path.{_≡_, refl, ap, sym, subst, _∙_}
@@ -16,8 +16,9 @@ use Rattle.frames.specs.declared.Place.{Place}
 use Rattle.frames.specs.declared.Frame.{Frame}
 use Rattle.frames.specs.declared.Framing.{Framing}
 use Rattle.frames.specs.Addresses.{calledOf}
-use Rattle.frames.specs.Receive.{Receiver, Received, slash, cr, stx, etx, mostKept, obeyed, placed, Stepped, quiet, finished}
-use Rattle.frames.specs.Receive.{begun, stored, heard, begunOem, storedFor, taken, begins, stepOf}
+use Rattle.parts.specs.Letters.{slash, cr, stx, etx}
+use Rattle.frames.specs.Receive.{Receiver, Received, mostKept, ours, placed, Stepped, quiet, finished}
+use Rattle.frames.specs.Receive.{begunPlain, stored, heard, begunOem, storedFor, otherByte, begins, byteReceived}
 use Rattle.frames.specs.Receive.{past, onward, receiveOf}
 use Rattle.frames.specs.Claims.{free, oemOf, sumOf, Sound, inBody, SameBody, Alike, Same}
 use Rattle.frames.proofs.Bools.{bool}
@@ -30,7 +31,7 @@ record SameStep (s t : Stepped) : Type 0 where
   alike : Alike (s .receiver) (t .receiver)
   frame : s .frame ≡ t .frame
   framing : s .framing ≡ t .framing
-  body : obeyed (s .frame) ≡ true → SameBody (s .receiver) (t .receiver)
+  body : ours (s .frame) ≡ true → SameBody (s .receiver) (t .receiver)
 
 both-ways : {A : Type 0} {x y x′ y′ : A} (P : A → A → Type 0) (t t′ : Bool) → t ≡ t′ → P x x′ → P y y′
     → P (cond t x y) (cond t′ x′ y′)
@@ -70,7 +71,7 @@ stored-alike : (b : ℕ) (r t : Receiver) → r .place ≡ t .place → Sound r 
 stored-alike b r t e s s′ m =
     record { place = stored-place b r ∙ e ∙ sym (stored-place b t); body = λ o. stored-same b r t s s′ m }
 
-begun-alike : (c : Frame) (r t : Receiver) → Alike (begun c r) (begun c t)
+begun-alike : (c : Frame) (r t : Receiver) → Alike (begunPlain c r) (begunPlain c t)
 begun-alike Frame.Nothing r t = only-place Place.Outside r t refl
 begun-alike Frame.Alone r t = record { place = refl; body = λ o. record { long = refl; bytes = refl } }
 begun-alike Frame.Group r t = record { place = refl; body = λ o. record { long = refl; bytes = refl } }
@@ -88,7 +89,7 @@ module _ (q x b : ℕ) (r t : Receiver) (s : Sound r) (s′ : Sound t) where
       let p = Place.OemBody w q x in
       stored-alike b (placed p r) (placed p t) refl (sound-placed p r s) (sound-placed p t s′) (same-placed p r t m)
 
-  stored-for-alike : (w : Frame) → (obeyed w ≡ true → SameBody r t)
+  stored-for-alike : (w : Frame) → (ours w ≡ true → SameBody r t)
       → Alike (storedFor w b (placed (Place.OemBody w q x) r)) (storedFor w b (placed (Place.OemBody w q x) t))
   stored-for-alike Frame.Nothing h = only-place (Place.OemBody Frame.Nothing q x) r t refl
   stored-for-alike Frame.Alone h = stored-oem-alike Frame.Alone (h refl)
@@ -100,7 +101,7 @@ module _ (q x b : ℕ) (r t : Receiver) (s : Sound r) (s′ : Sound t) where
 calm : {r t : Receiver} → Alike r t → SameStep (quiet r) (quiet t)
 calm a = record { alike = a; frame = refl; framing = refl; body = λ o. absurd (true≢false (sym o)) }
 
-finished-same : (w : Frame) (g : Framing) (r t : Receiver) → (obeyed w ≡ true → SameBody r t)
+finished-same : (w : Frame) (g : Framing) (r t : Receiver) → (ours w ≡ true → SameBody r t)
     → SameStep (finished w g (placed Place.Outside r)) (finished w g (placed Place.Outside t))
 finished-same Frame.Nothing g r t h = calm (only-place Place.Outside r t refl)
 finished-same Frame.Alone g r t h =
@@ -122,7 +123,7 @@ module _ (u b : ℕ) (r t : Receiver) (s : Sound r) (s′ : Sound t) (a : Alike 
   left : SameStep (quiet (placed Place.Outside r)) (quiet (placed Place.Outside t))
   left = calm (only-place Place.Outside r t refl)
 
-  taken-same : (p : Place) → (inBody p ≡ true → SameBody r t) → SameStep (taken p u b r) (taken p u b t)
+  taken-same : (p : Place) → (inBody p ≡ true → SameBody r t) → SameStep (otherByte p u b r) (otherByte p u b t)
   taken-same Place.Outside h = calm a
   taken-same Place.Address h = both-ways SameStep (eqb b cr) (eqb b cr) refl left (calm (begun-alike (calledOf u b) r t))
   taken-same Place.Alone h =
@@ -146,12 +147,12 @@ module _ (u b : ℕ) (r t : Receiver) (s : Sound r) (s′ : Sound t) (a : Alike 
       (stored-for-alike q (xor x b) b r t s s′ w h))
   taken-same (Place.OemSum w q x) h = both-ways SameStep (eqb b x) (eqb b x) refl (finished-same w (Framing.Oem q) r t h) left
 
-  step-same : SameStep (stepOf r u b) (stepOf t u b)
-  unfolding stepOf
+  step-same : SameStep (byteReceived r u b) (byteReceived t u b)
+  unfolding byteReceived
   step-same =
       both-ways SameStep (begins slash (r .place) b) (begins slash (t .place) b) (ap (λ (p : Place). begins slash p b) (a .place)) (calm (only-place Place.Address r t refl))
       (both-ways SameStep (begins stx (r .place) b) (begins stx (t .place) b) (ap (λ (p : Place). begins stx p b) (a .place)) (calm (only-place Place.OemAddress r t refl))
-      (subst (λ (p : Place). SameStep (taken (r .place) u b r) (taken p u b t)) (a .place) (taken-same (r .place) (a .body))))
+      (subst (λ (p : Place). SameStep (otherByte (r .place) u b r) (otherByte p u b t)) (a .place) (taken-same (r .place) (a .body))))
 
 -- ---- calls
 
@@ -161,7 +162,7 @@ past-same k f g m =
 
 onward-same : (x y : Stepped) (f g : Received) → SameStep x y → Same f g → Same (onward x f) (onward y g)
 onward-same x y f g m n =
-    both-ways Same (obeyed (x .frame)) (obeyed (y .frame)) (ap obeyed (m .frame))
+    both-ways Same (ours (x .frame)) (ours (y .frame)) (ap ours (m .frame))
     (record { alike = m .alike; count = refl; frame = m .frame; framing = m .framing; body = m .body })
     (past-same 1 f g n)
 
@@ -172,8 +173,8 @@ stale r u t [] s s′ a =
     record { alike = a; count = refl; frame = refl; framing = refl; body = λ o. absurd (true≢false (sym o)) }
 stale r u t (b ∷ bs) s s′ a =
     let m = step-same u b r t s s′ a in
-    onward-same (stepOf r u b) (stepOf t u b) _ _ m
-    (stale (stepOf r u b .receiver) u (stepOf t u b .receiver) bs (sound-step r u b s) (sound-step t u b s′) (m .alike))
+    onward-same (byteReceived r u b) (byteReceived t u b) _ _ m
+    (stale (byteReceived r u b .receiver) u (byteReceived t u b .receiver) bs (sound-step r u b s) (sound-step t u b s′) (m .alike))
 
 pub as-if-not-come : (r : Receiver) (u a q : ℕ) (body : List ℕ) (c : ℕ) (ys : List ℕ) → Sound r
     → r .place ≡ Place.Outside → free etx (a ∷ q ∷ body) ≡ true → (c ≡ sumOf a q body → ⊥)

@@ -17,8 +17,9 @@ use Rattle.frames.specs.declared.Place.{Place}
 use Rattle.frames.specs.declared.Frame.{Frame}
 use Rattle.frames.specs.declared.Framing.{Framing}
 use Rattle.frames.specs.Addresses.{unitByte, calledOf}
-use Rattle.frames.specs.Receive.{Receiver, Received, slash, cr, stx, etx, mostKept, bodyIn, obeyed, receiverAt, placed, quiet, finished}
-use Rattle.frames.specs.Receive.{begun, stored, good, heard, begunOem, elsewhere, stepOf, past, ended, receiveOf}
+use Rattle.parts.specs.Letters.{slash, cr, stx, etx}
+use Rattle.frames.specs.Receive.{Receiver, Received, mostKept, bodyIn, ours, receiverAt, placed, quiet, finished}
+use Rattle.frames.specs.Receive.{begunPlain, stored, good, heard, begunOem, elsewhere, byteReceived, past, endedHere, receiveOf}
 use Rattle.frames.specs.Pieces.{completed}
 use Rattle.frames.specs.Claims.{free, frameOf, oemOf, sumOf, Sound, Whole, Skipped}
 use Rattle.frames.proofs.Bools.{bool, both}
@@ -88,12 +89,12 @@ module _ (p : Place) (xs body : List ℕ) (f : length xs ≡ mostKept) where
       record { completes = refl; framed = refl; consumes = refl; leaves = refl; keeps = kept p xs body f }
 
 -- an address byte that calls is none of the bytes below 31 hex: those call nobody
-calls : (u a b : ℕ) → b ≤ unitByte 0 → obeyed (calledOf u a) ≡ true → eqb a b ≡ false
+calls : (u a b : ℕ) → b ≤ unitByte 0 → ours (calledOf u a) ≡ true → eqb a b ≡ false
 calls u a b h o = ne-eqb a b (λ e. something o (low u a (omega arith)))
 
 -- THE PLAIN FRAME
 -- the bytes of a body, from a receiver in it
-body-goes : (r : Receiver) (u : ℕ) (bs ys : List ℕ) → obeyed (completed (r .place)) ≡ true → free cr bs ≡ true
+body-goes : (r : Receiver) (u : ℕ) (bs ys : List ℕ) → ours (completed (r .place)) ≡ true → free cr bs ≡ true
     → receiveOf r u (bs ++ ys) ≡ past (length bs) (receiveOf (storedAll bs r) u ys)
 body-goes r u [] ys i f = sym (past-zero _)
 body-goes r u (b ∷ bs) ys i f =
@@ -102,10 +103,10 @@ body-goes r u (b ∷ bs) ys i f =
     ∙ rw (body-goes (stored b r) u bs ys (rw (stored-place b r) i) g) (past-more (length bs) _)
 
 -- its CR
-body-ends : (p : Place) (r : Receiver) (u : ℕ) → obeyed (completed p) ≡ true
+body-ends : (p : Place) (r : Receiver) (u : ℕ) → ours (completed p) ≡ true
     → receiveOf (placed p r) u (cr ∷ [])
     ≡ record { receiver = placed Place.Outside r; consumed = 1; frame = completed p; framing = Framing.Plain }
-unfolding stepOf receiveOf
+unfolding byteReceived receiveOf
 body-ends Place.Outside r u i = absurd (true≢false (sym i))
 body-ends Place.Address r u i = absurd (true≢false (sym i))
 body-ends Place.Alone r u i = refl
@@ -117,8 +118,8 @@ body-ends (Place.OemSum w q s) r u i = absurd (true≢false (sym i))
 
 -- a whole frame, once its address byte has begun a body at p
 whole-is : (p : Place) (r : Receiver) (u a : ℕ) (body : List ℕ) → elsewhere (r .place) ≡ true
-    → obeyed (completed p) ≡ true → free cr body ≡ true
-    → stepOf (placed Place.Address r) u a ≡ quiet (receiverAt p 0 (r .body))
+    → ours (completed p) ≡ true → free cr body ≡ true
+    → byteReceived (placed Place.Address r) u a ≡ quiet (receiverAt p 0 (r .body))
     → receiveOf r u (frameOf a body)
     ≡ record {
       receiver = placed Place.Outside (storedAll body (receiverAt p 0 (r .body)));
@@ -139,8 +140,8 @@ whole-is p r u a body l i q e =
     (omega (arith, length-append body (cr ∷ [])))
 
 whole-at : (p : Place) (r : Receiver) (u a : ℕ) (body : List ℕ) → Sound r → elsewhere (r .place) ≡ true
-    → obeyed (completed p) ≡ true → free cr body ≡ true
-    → stepOf (placed Place.Address r) u a ≡ quiet (receiverAt p 0 (r .body))
+    → ours (completed p) ≡ true → free cr body ≡ true
+    → byteReceived (placed Place.Address r) u a ≡ quiet (receiverAt p 0 (r .body))
     → Whole (completed p) Framing.Plain (frameOf a body) body (receiveOf r u (frameOf a body))
 whole-at p r u a body s l i q e =
     rw (whole-is p r u a body l i q e)
@@ -148,14 +149,14 @@ whole-at p r u a body s l i q e =
 
 called-at : (c : Frame) (r : Receiver) (u a : ℕ) (body : List ℕ) → Sound r → elsewhere (r .place) ≡ true
     → free cr body ≡ true
-    → stepOf (placed Place.Address r) u a ≡ quiet (begun c (placed Place.Address r)) → obeyed c ≡ true
+    → byteReceived (placed Place.Address r) u a ≡ quiet (begunPlain c (placed Place.Address r)) → ours c ≡ true
     → Whole c Framing.Plain (frameOf a body) body (receiveOf r u (frameOf a body))
 called-at Frame.Nothing r u a body s l q e o = absurd (true≢false (sym o))
 called-at Frame.Alone r u a body s l q e o = whole-at Place.Alone r u a body s l refl q e
 called-at Frame.Group r u a body s l q e o = whole-at Place.Group r u a body s l refl q e
 
 pub whole : (r : Receiver) (u a : ℕ) (body : List ℕ) → Sound r → elsewhere (r .place) ≡ true
-    → obeyed (calledOf u a) ≡ true → free cr body ≡ true
+    → ours (calledOf u a) ≡ true → free cr body ≡ true
     → Whole (calledOf u a) Framing.Plain (frameOf a body) body (receiveOf r u (frameOf a body))
 whole r u a body s l o q =
     called-at (calledOf u a) r u a body s l q
@@ -164,7 +165,7 @@ whole r u a body s l o q =
 
 -- THE OEM FRAME
 -- what is stored for this unit or its groups
-all-stored : (w : Frame) (q s : ℕ) (bs : List ℕ) (r : Receiver) → obeyed w ≡ true
+all-stored : (w : Frame) (q s : ℕ) (bs : List ℕ) (r : Receiver) → ours w ≡ true
     → storedAllFor w bs (begunOem w q s r) ≡ storedAll bs (receiverAt (Place.OemBody w q s) 0 (r .body))
 all-stored w q s bs r o = rw o (go bs (receiverAt (Place.OemBody w q s) 0 (r .body)))
   where
@@ -173,7 +174,7 @@ all-stored w q s bs r o = rw o (go bs (receiverAt (Place.OemBody w q s) 0 (r .bo
     go (b ∷ bs) t = rw o (go bs (stored b t))
 
 -- a frame for this unit or its groups is free of 2F, 02 and 03 up to its body: a good sequence byte is none of them
-heard-free : (u a q : ℕ) (body : List ℕ) → obeyed (calledOf u a) ≡ true → good q ≡ true → free etx body ≡ true
+heard-free : (u a q : ℕ) (body : List ℕ) → ours (calledOf u a) ≡ true → good q ≡ true → free etx body ≡ true
     → free etx (a ∷ q ∷ body) ≡ true
 heard-free u a q body o g f =
     let l : 0x30 ≤ q = leb-true 0x30 q (both (leb 0x30 q) (leb q 0x3F) g .0) in
@@ -191,13 +192,13 @@ heard-good : (w : Frame) (q : ℕ) → good q ≡ true → heard w q ≡ w
 unfolding heard
 heard-good w q g = rw g
 
-finished-is : (w : Frame) (g : Framing) (r : Receiver) → obeyed w ≡ true
+finished-is : (w : Frame) (g : Framing) (r : Receiver) → ours w ≡ true
     → finished w g r ≡ record { receiver = r; frame = w; framing = g }
 finished-is Frame.Nothing g r o = absurd (true≢false (sym o))
 finished-is Frame.Alone g r o = refl
 finished-is Frame.Group g r o = refl
 
-whole-oem-is : (w : Frame) (r : Receiver) (u a q : ℕ) (body : List ℕ) → elsewhere (r .place) ≡ true → obeyed w ≡ true
+whole-oem-is : (w : Frame) (r : Receiver) (u a q : ℕ) (body : List ℕ) → elsewhere (r .place) ≡ true → ours w ≡ true
     → heard (calledOf u a) q ≡ w → free etx (a ∷ q ∷ body) ≡ true
     → receiveOf r u (oemOf a q body (sumOf a q body))
     ≡ record {
@@ -215,12 +216,12 @@ whole-oem-is w r u a q body l o h f =
     oem-is r u a q body c l f
     ∙ ap (λ (y : Receiver). past (length body + 4) (receiveOf y u (c ∷ []))) at
     ∙ ap (past (length body + 4))
-    (sum-ends t u w q c c ∙ rw (eq-eqb c c refl) (ap ended (finished-is w (Framing.Oem q) (placed Place.Outside t) o)))
+    (sum-ends t u w q c c ∙ rw (eq-eqb c c refl) (ap endedHere (finished-is w (Framing.Oem q) (placed Place.Outside t) o)))
     ∙ ap (λ (k : ℕ). record { receiver = placed Place.Outside t; consumed = k; frame = w; framing = Framing.Oem q })
     (sym (length-oem a q body c))
 
 pub whole-oem : (r : Receiver) (u a q : ℕ) (body : List ℕ) → Sound r → elsewhere (r .place) ≡ true
-    → obeyed (calledOf u a) ≡ true → good q ≡ true → free etx body ≡ true
+    → ours (calledOf u a) ≡ true → good q ≡ true → free etx body ≡ true
     → Whole (calledOf u a) (Framing.Oem q) (oemOf a q body (sumOf a q body)) body
     (receiveOf r u (oemOf a q body (sumOf a q body)))
 whole-oem r u a q body s l o g f =
@@ -235,7 +236,7 @@ pub wrong-sum : (r : Receiver) (u a q : ℕ) (body : List ℕ) (c : ℕ) → els
 wrong-sum r u a q body c l f n =
     let w = heard (calledOf u a) q in
     let t = storedAllFor w body (begunOem w q (xor (xor stx a) q) r) in
-    let e : receiveOf r u (oemOf a q body c) ≡ past (length body + 4) (ended (quiet (placed Place.Outside t))) =
+    let e : receiveOf r u (oemOf a q body c) ≡ past (length body + 4) (endedHere (quiet (placed Place.Outside t))) =
     oem-is r u a q body c l f
     ∙ ap (past (length body + 4)) (sum-ends t u w q (sumOf a q body) c ∙ rw (ne-eqb c (sumOf a q body) n)) in
     rw e (record { nothing = refl; consumes = sym (length-oem a q body c); leaves = refl })

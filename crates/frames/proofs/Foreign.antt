@@ -13,8 +13,9 @@ use Rattle.frames.specs.declared.Place.{Place}
 use Rattle.frames.specs.declared.Frame.{Frame}
 use Rattle.frames.specs.declared.Framing.{Framing}
 use Rattle.frames.specs.Addresses.{calledOf}
-use Rattle.frames.specs.Receive.{Receiver, Received, slash, cr, stx, etx, placed, Stepped, quiet, heard, elsewhere, stepOf}
-use Rattle.frames.specs.Receive.{past, ended, receiveOf}
+use Rattle.parts.specs.Letters.{slash, cr, stx, etx}
+use Rattle.frames.specs.Receive.{Receiver, Received, placed, Stepped, quiet, heard, elsewhere, byteReceived}
+use Rattle.frames.specs.Receive.{past, endedHere, receiveOf}
 use Rattle.frames.specs.Claims.{free, sumOf, Foreign, unmoved}
 use Rattle.frames.proofs.Bools.{cases}
 use Rattle.frames.proofs.Steps.{free-cons, begins-plain, begins-oem, step-address, step-outside, step-oem-address}
@@ -39,21 +40,21 @@ skip r u (b ∷ xs) ys o f =
 -- after `/`, an address byte for others, or a CR, takes the receiver back outside
 leaves : (r : Receiver) (u a : ℕ) → r .place ≡ Place.Outside → calledOf u a ≡ Frame.Nothing → eqb a slash ≡ false
     → eqb a stx ≡ false → eqb a cr ≡ false
-    → stepOf (placed Place.Address r) u a ≡ quiet r
+    → byteReceived (placed Place.Address r) u a ≡ quiet r
 leaves r u a o n s t c = step-address r u a s t c ∙ rw n (ap quiet (back r o))
 
-returns : (r : Receiver) (u : ℕ) → r .place ≡ Place.Outside → stepOf (placed Place.Address r) u cr ≡ quiet r
-unfolding stepOf
+returns : (r : Receiver) (u : ℕ) → r .place ≡ Place.Outside → byteReceived (placed Place.Address r) u cr ≡ quiet r
+unfolding byteReceived
 returns r u o = ap quiet (back r o)
 
 -- after 02, or 02 and an address, so does 03
-drops : (r : Receiver) (u : ℕ) → r .place ≡ Place.Outside → stepOf (placed Place.OemAddress r) u etx ≡ quiet r
-unfolding stepOf
+drops : (r : Receiver) (u : ℕ) → r .place ≡ Place.Outside → byteReceived (placed Place.OemAddress r) u etx ≡ quiet r
+unfolding byteReceived
 drops r u o = ap quiet (back r o)
 
 drops-next : (r : Receiver) (u : ℕ) (w : Frame) (s : ℕ) → r .place ≡ Place.Outside
-    → stepOf (placed (Place.OemSequence w s) r) u etx ≡ quiet r
-unfolding stepOf
+    → byteReceived (placed (Place.OemSequence w s) r) u etx ≡ quiet r
+unfolding byteReceived
 drops-next r u w s o = ap quiet (back r o)
 
 -- of a body for others nothing is kept
@@ -67,9 +68,9 @@ unheard r u a q body n = rw (n, none-stored)
 
 -- whatever the checksum, it takes the receiver outside
 unsummed : (r : Receiver) (u q s c : ℕ) → r .place ≡ Place.Outside
-    → receiveOf (placed (Place.OemSum Frame.Nothing q s) r) u (c ∷ []) ≡ ended (quiet r)
+    → receiveOf (placed (Place.OemSum Frame.Nothing q s) r) u (c ∷ []) ≡ endedHere (quiet r)
 unsummed r u q s c o =
-    sum-ends r u Frame.Nothing q s c ∙ cases (λ (t : Stepped). ended t ≡ ended (quiet r)) (eqb c s) (λ e. rw (back r o)) (λ e. rw (back r o))
+    sum-ends r u Frame.Nothing q s c ∙ cases (λ (t : Stepped). endedHere t ≡ endedHere (quiet r)) (eqb c s) (λ e. rw (back r o)) (λ e. rw (back r o))
 
 pub foreign : (r : Receiver) (u : ℕ) (xs : List ℕ) → r .place ≡ Place.Outside → Foreign u xs
     → receiveOf r u xs ≡ unmoved r xs

@@ -14,8 +14,9 @@ use Rattle.frames.specs.declared.Place.{Place}
 use Rattle.frames.specs.declared.Frame.{Frame}
 use Rattle.frames.specs.declared.Framing.{Framing}
 use Rattle.frames.specs.Addresses.{calledOf}
-use Rattle.frames.specs.Receive.{Receiver, Received, stx, etx, placed, quiet, finished, storedFor, heard}
-use Rattle.frames.specs.Receive.{begunOem, elsewhere, past, ended, onward, Stepped, receiveOf}
+use Rattle.parts.specs.Letters.{stx, etx}
+use Rattle.frames.specs.Receive.{Receiver, Received, placed, quiet, finished, storedFor, heard}
+use Rattle.frames.specs.Receive.{begunOem, elsewhere, past, endedHere, onward, Stepped, receiveOf}
 use Rattle.frames.specs.Claims.{free, oemOf, sumOf}
 use Rattle.frames.proofs.Bools.{cases}
 use Rattle.frames.proofs.Steps.{free-cons, begins-oem, step-oem-address, step-oem-sequence, step-oem-body, step-oem-end}
@@ -89,7 +90,7 @@ oem-is r u a q body c e f =
 
 -- the checksum, the last byte of a call
 abbrev Last : Stepped → Type 0
-Last t = onward t (record { receiver = t .receiver; consumed = 0; frame = Frame.Nothing; framing = Framing.Plain }) ≡ ended t
+Last t = onward t (record { receiver = t .receiver; consumed = 0; frame = Frame.Nothing; framing = Framing.Plain }) ≡ endedHere t
 
 last-finished : (w : Frame) (g : Framing) (r : Receiver) → Last (finished w g r)
 last-finished Frame.Nothing g r = refl
@@ -98,7 +99,7 @@ last-finished Frame.Group g r = refl
 
 pub sum-ends : (r : Receiver) (u : ℕ) (w : Frame) (q s c : ℕ)
     → receiveOf (placed (Place.OemSum w q s) r) u (c ∷ [])
-    ≡ ended (cond (eqb c s) (finished w (Framing.Oem q) (placed Place.Outside r)) (quiet (placed Place.Outside r)))
+    ≡ endedHere (cond (eqb c s) (finished w (Framing.Oem q) (placed Place.Outside r)) (quiet (placed Place.Outside r)))
 unfolding receiveOf
 sum-ends r u w q s c =
     rw (step-oem-sum r u w q s c)

@@ -9,7 +9,8 @@ use lib.Dec.{eqb}
 use borrow.Author.Tests.{lt-ltb, le-ltb}
 use Rattle.frames.specs.declared.Place.{Place}
 use Rattle.frames.specs.declared.Frame.{Frame}
-use Rattle.frames.specs.Receive.{Stepped, receiverAt, slash, cr, stx, mostKept, obeyed, quiet, stored, stepOf}
+use Rattle.parts.specs.Letters.{slash, cr, stx}
+use Rattle.frames.specs.Receive.{Stepped, receiverAt, mostKept, ours, quiet, stored, byteReceived}
 use Rattle.frames.specs.Pieces.{completed, leavesBody, inPlain, isOutside}
 use Rattle.frames.proofs.Steps.{step-plain, step-inside}
 
@@ -26,29 +27,29 @@ first-of false b c y z h = absurd (true≢false (sym h ∙ rw (y, z)))
 pub leaves-cr : (b : ℕ) → eqb b slash ≡ false → eqb b stx ≡ false → leavesBody b ≡ true → eqb b cr ≡ true
 leaves-cr b s t h = first-of (eqb b cr) (eqb b stx) (eqb b slash) t s h
 
-stays : (p : Place) (n : ℕ) (body : List ℕ) (u b : ℕ) → obeyed (completed p) ≡ true → leavesBody b ≡ false
-    → stepOf (receiverAt p n body) u b ≡ quiet (stored b (receiverAt p n body))
+stays : (p : Place) (n : ℕ) (body : List ℕ) (u b : ℕ) → ours (completed p) ≡ true → leavesBody b ≡ false
+    → byteReceived (receiverAt p n body) u b ≡ quiet (stored b (receiverAt p n body))
 stays p n body u b i h =
     let e = none-of (eqb b cr) (eqb b stx) (eqb b slash) h in
     step-inside (receiverAt p n body) u b i (e .2) (e .1) (e .0)
 
 -- one that stays is stored where there is room
-pub stays-kept : (p : Place) (n : ℕ) (body : List ℕ) (u b : ℕ) → obeyed (completed p) ≡ true → leavesBody b ≡ false
+pub stays-kept : (p : Place) (n : ℕ) (body : List ℕ) (u b : ℕ) → ours (completed p) ≡ true → leavesBody b ≡ false
     → n < mostKept
-    → quiet (receiverAt p (n + 1) (set body n b)) ≡ stepOf (receiverAt p n body) u b
+    → quiet (receiverAt p (n + 1) (set body n b)) ≡ byteReceived (receiverAt p n body) u b
 unfolding stored
 stays-kept p n body u b i h k = sym (stays p n body u b i h ∙ rw (lt-ltb n mostKept k))
 
-pub stays-full : (p : Place) (n : ℕ) (body : List ℕ) (u b : ℕ) → obeyed (completed p) ≡ true → leavesBody b ≡ false
+pub stays-full : (p : Place) (n : ℕ) (body : List ℕ) (u b : ℕ) → ours (completed p) ≡ true → leavesBody b ≡ false
     → mostKept ≤ n
-    → quiet (receiverAt p n body) ≡ stepOf (receiverAt p n body) u b
+    → quiet (receiverAt p n body) ≡ byteReceived (receiverAt p n body) u b
 unfolding stored
 stays-full p n body u b i h k = sym (stays p n body u b i h ∙ rw (le-ltb n mostKept k))
 
 -- one that leaves it
-pub leaves-by : {s : Stepped} {w : Frame} (p : Place) (n : ℕ) (body : List ℕ) (u b : ℕ) → obeyed (completed p) ≡ true
+pub leaves-by : {s : Stepped} {w : Frame} (p : Place) (n : ℕ) (body : List ℕ) (u b : ℕ) → ours (completed p) ≡ true
     → w ≡ completed p → s ≡ inPlain w b (receiverAt p n body)
-    → s ≡ stepOf (receiverAt p n body) u b
+    → s ≡ byteReceived (receiverAt p n body) u b
 leaves-by p n body u b i c e = e ∙ rw c (sym (step-plain (receiverAt p n body) u b i))
 
 pub only-outside : (p : Place) → isOutside p ≡ true → p ≡ Place.Outside

@@ -13,8 +13,9 @@ use Rattle.frames.specs.declared.Framing.{Framing}
 use Rattle.frames.specs.declared.Heard.{Heard}
 use Rattle.frames.specs.declared.Progress.{Progress}
 use Rattle.frames.specs.Addresses.{isUnit, unitByte, pairs, fours, all, isIn, calledOf}
-use Rattle.frames.specs.Receive.{slash, cr, stx, etx, mostKept, Receiver, Received, receiverOf, heardWith, bodyIn}
-use Rattle.frames.specs.Receive.{freshProgress, obeyed, placed, quiet, good, heard, elsewhere, stepOf, past, receiveOf}
+use Rattle.parts.specs.Letters.{slash, cr, stx, etx}
+use Rattle.frames.specs.Receive.{mostKept, Receiver, Received, receiverOf, heardWith, bodyIn}
+use Rattle.frames.specs.Receive.{freshProgress, ours, placed, quiet, good, heard, elsewhere, byteReceived, past, receiveOf}
 
 -- the units 1 to 16, in twos and in fours
 abbrev pub units : List ℕ
@@ -38,7 +39,7 @@ among test [] = []
 among test (u ∷ us) = cond (test u) (u ∷ among test us) (among test us)
 
 unfoldable pub unitsCalled : ℕ → List ℕ
-unitsCalled b = among (λ u. obeyed (calledOf u b)) units
+unitsCalled b = among (λ u. ours (calledOf u b)) units
 
 pub record AddressClaims : Type 0 where
   -- "Units 1 to 16 are bytes 31 to 40 hex"
@@ -115,8 +116,8 @@ inBody Place.Alone = true
 inBody Place.Group = true
 inBody Place.OemAddress = false
 inBody (Place.OemSequence w s) = false
-inBody (Place.OemBody w q s) = obeyed w
-inBody (Place.OemSum w q s) = obeyed w
+inBody (Place.OemBody w q s) = ours w
+inBody (Place.OemSum w q s) = ours w
 
 pub record SameBody (r t : Receiver) : Type 0 where
   pub long : r .length ≡ t .length
@@ -133,13 +134,13 @@ pub record Same (f g : Received) : Type 0 where
   pub count : f .consumed ≡ g .consumed
   pub frame : f .frame ≡ g .frame
   pub framing : f .framing ≡ g .framing
-  pub body : obeyed (f .frame) ≡ true → SameBody (f .receiver) (g .receiver)
+  pub body : ours (f .frame) ≡ true → SameBody (f .receiver) (g .receiver)
 
 -- the byte that completes a frame: the CR of a plain body, or the right checksum
 pub data Ends : Place → ℕ → Frame → Framing → Type 0 where
   plain-alone : Ends Place.Alone cr Frame.Alone Framing.Plain
   plain-group : Ends Place.Group cr Frame.Group Framing.Plain
-  oem : (w : Frame) (q s : ℕ) → obeyed w ≡ true → Ends (Place.OemSum w q s) s w (Framing.Oem q)
+  oem : (w : Frame) (q s : ℕ) → ours w ≡ true → Ends (Place.OemSum w q s) s w (Framing.Oem q)
 
 -- the byte at which a feed call ended: the bytes before it complete nothing, and it ends the frame that they have begun
 pub record FirstEnd (r : Receiver) (u : ℕ) (xs : List ℕ) (f : Received) : Type 0 where
@@ -154,15 +155,15 @@ pub record FirstEnd (r : Receiver) (u : ℕ) (xs : List ℕ) (f : Received) : Ty
 -- what holds of every receiver r and unit number u
 pub record ReceiveClaims (r : Receiver) (u : ℕ) : Type 0 where
   -- "Bytes outside a frame, LF included, are skipped"
-  pub skipped : (b : ℕ) → r .place ≡ Place.Outside → (b ≡ slash → ⊥) → (b ≡ stx → ⊥) → stepOf r u b ≡ quiet r
+  pub skipped : (b : ℕ) → r .place ≡ Place.Outside → (b ≡ slash → ⊥) → (b ≡ stx → ⊥) → byteReceived r u b ≡ quiet r
   -- "02 or `/` begins a new frame everywhere but in the checksum place"
-  pub begins-plain : elsewhere (r .place) ≡ true → stepOf r u slash ≡ quiet (placed Place.Address r)
-  pub begins-oem : elsewhere (r .place) ≡ true → stepOf r u stx ≡ quiet (placed Place.OemAddress r)
+  pub begins-plain : elsewhere (r .place) ≡ true → byteReceived r u slash ≡ quiet (placed Place.Address r)
+  pub begins-oem : elsewhere (r .place) ≡ true → byteReceived r u stx ≡ quiet (placed Place.OemAddress r)
   -- there, and wherever else r stands, just this frame is received
-  pub whole : (a : ℕ) (body : List ℕ) → Sound r → elsewhere (r .place) ≡ true → obeyed (calledOf u a) ≡ true
+  pub whole : (a : ℕ) (body : List ℕ) → Sound r → elsewhere (r .place) ≡ true → ours (calledOf u a) ≡ true
       → free cr body ≡ true
       → Whole (calledOf u a) Framing.Plain (frameOf a body) body (receiveOf r u (frameOf a body))
-  pub whole-oem : (a q : ℕ) (body : List ℕ) → Sound r → elsewhere (r .place) ≡ true → obeyed (calledOf u a) ≡ true
+  pub whole-oem : (a q : ℕ) (body : List ℕ) → Sound r → elsewhere (r .place) ≡ true → ours (calledOf u a) ≡ true
       → good q ≡ true → free etx body ≡ true
       → Whole (calledOf u a) (Framing.Oem q) (oemOf a q body (sumOf a q body)) body
       (receiveOf r u (oemOf a q body (sumOf a q body)))
@@ -183,10 +184,10 @@ pub record ReceiveClaims (r : Receiver) (u : ℕ) : Type 0 where
   pub cut : (xs ys : List ℕ) → receiveOf r u xs .frame ≡ Frame.Nothing
       → receiveOf r u (xs ++ ys) ≡ past (length xs) (receiveOf (receiveOf r u xs .receiver) u ys)
   -- "consumes up to and with the CR", or the checksum, "of the first frame for this unit or its groups": the rest is not looked at
-  pub rest : (xs ys : List ℕ) → obeyed (receiveOf r u xs .frame) ≡ true → receiveOf r u (xs ++ ys) ≡ receiveOf r u xs
-  pub first : (xs : List ℕ) → obeyed (receiveOf r u xs .frame) ≡ true → FirstEnd r u xs (receiveOf r u xs)
+  pub rest : (xs ys : List ℕ) → ours (receiveOf r u xs .frame) ≡ true → receiveOf r u (xs ++ ys) ≡ receiveOf r u xs
+  pub first : (xs : List ℕ) → ours (receiveOf r u xs .frame) ≡ true → FirstEnd r u xs (receiveOf r u xs)
   -- after it the receiver stands outside a frame
-  pub outside : (xs : List ℕ) → obeyed (receiveOf r u xs .frame) ≡ true → receiveOf r u xs .receiver .place ≡ Place.Outside
+  pub outside : (xs : List ℕ) → ours (receiveOf r u xs .frame) ≡ true → receiveOf r u xs .receiver .place ≡ Place.Outside
   -- where nothing was completed no framing is told
   pub untold : (xs : List ℕ) → receiveOf r u xs .frame ≡ Frame.Nothing → receiveOf r u xs .framing ≡ Framing.Plain
   -- "else all it was given"
@@ -206,7 +207,7 @@ received₁ bytes = receiveOf (receiverOf freshProgress (zeros mostKept)) 1 byte
 abbrev pub between03 : List ℕ → List ℕ
 between03 bytes = take (length bytes - 4) (drop 3 bytes)
 
-pub record Example (bytes : List ℕ) (f : Received) : Type 0 where
+pub record OemExample (bytes : List ℕ) (f : Received) : Type 0 where
   pub alone : f .frame ≡ Frame.Alone
   pub framed : f .framing ≡ Framing.Oem 0x31
   pub count : f .consumed ≡ length bytes + 1
@@ -221,5 +222,5 @@ pub record FrameClaims : Type 0 where
   pub one-answer : (p : Progress) (body : List ℕ) (u : ℕ) (bytes : List ℕ) {h g : Heard} {x y : List ℕ}
       → heardWith h x ≡ receiveOf (receiverOf p body) u bytes → heardWith g y ≡ receiveOf (receiverOf p body) u bytes
       → (h ≡ g) × (x ≡ y)
-  pub first-example : Example example₁ (received₁ (example₁ ++ (0x23 ∷ [])))
-  pub second-example : Example example₂ (received₁ (example₂ ++ (0x43 ∷ [])))
+  pub first-example : OemExample example₁ (received₁ (example₁ ++ (0x23 ∷ [])))
+  pub second-example : OemExample example₂ (received₁ (example₂ ++ (0x43 ∷ [])))

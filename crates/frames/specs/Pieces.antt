@@ -1,4 +1,4 @@
--- The receiver in pieces, as the code works on it: the body lent, all else by value.
+-- For the code: the receiver in pieces, as it works on it: the body lent, all else by value.
 -- Assumes nothing.
 use Prim.Native.Nat.{ℕ, _<_, _≤_}
 use mathlib.Core.List.{List}
@@ -11,7 +11,8 @@ use Rattle.frames.specs.declared.Frame.{Frame}
 use Rattle.frames.specs.declared.Framing.{Framing}
 use Rattle.frames.specs.declared.Head.{Head}
 use Rattle.frames.specs.declared.Advanced.{Advanced}
-use Rattle.frames.specs.Receive.{Receiver, Received, Stepped, receiverAt, slash, cr, stx, obeyed, placed, quiet, stored, closed, past, receiveOf}
+use Rattle.parts.specs.Letters.{slash, cr, stx}
+use Rattle.frames.specs.Receive.{Receiver, Received, Stepped, receiverAt, ours, placed, quiet, stored, closedByCr, past, receiveOf}
 
 -- what a CR completes
 abbrev pub completed : Place → Frame
@@ -43,7 +44,7 @@ leavesBody b = eqb b cr || (eqb b stx || eqb b slash)
 abbrev pub inPlain : Frame → ℕ → Receiver → Stepped
 inPlain w b r =
     cond (eqb b slash) (quiet (placed Place.Address r))
-    (cond (eqb b stx) (quiet (placed Place.OemAddress r)) (closed w b r (quiet (stored b r))))
+    (cond (eqb b stx) (quiet (placed Place.OemAddress r)) (closedByCr w b r (quiet (stored b r))))
 
 -- the receiver there, nothing completed
 abbrev pub quietAt : Place → ℕ → Head
@@ -66,5 +67,5 @@ abbrev pub Advances : Receiver → ℕ → List ℕ → ℕ → Advanced → Lis
 Advances r u bytes i a body =
     (i < a .next)
     × (a .next ≤ length bytes)
-    × (past i (receiveOf r u (drop i bytes)) ≡ cond (obeyed (a .head .frame)) (endedAt a body)
+    × (past i (receiveOf r u (drop i bytes)) ≡ cond (ours (a .head .frame)) (endedAt a body)
     (past (a .next) (receiveOf (wholeOf (a .head) body) u (drop (a .next) bytes))))

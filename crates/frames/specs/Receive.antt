@@ -5,6 +5,8 @@ use mathlib.Core.List.{List, [], _∷_}
 use mathlib.Core.Bool.{Bool, true, false, cond, _&&_}
 use lib.ListN.{set, take}
 use lib.Dec.{ltb, leb, eqb}
+use Rattle.parts.specs.Parts.{mostBytes}
+use Rattle.parts.specs.Letters.{slash, cr, stx, etx}
 use Rattle.checksum.specs.Checksum.{xor}
 use Rattle.frames.specs.declared.Place.{Place}
 use Rattle.frames.specs.declared.Frame.{Frame}
@@ -13,29 +15,15 @@ use Rattle.frames.specs.declared.Progress.{Progress}
 use Rattle.frames.specs.declared.Heard.{Heard}
 use Rattle.frames.specs.Addresses.{calledOf}
 
--- "A frame is `/`, an address byte, a body, CR"
-abbrev pub slash : ℕ
-slash = 47
-
-abbrev pub cr : ℕ
-cr = 13
-
--- "the OEM frame: 02, address, sequence byte, body, 03, then the exclusive-or of all bytes from 02 to 03"
-abbrev pub stx : ℕ
-stx = 0x02
-
-abbrev pub etx : ℕ
-etx = 0x03
-
 -- "The body has 0 to 256 bytes": one byte more is kept, so that a longer one is seen to be over-long
 abbrev pub mostKept : ℕ
-mostKept = 257
+mostKept = mostBytes + 1
 
--- "A group frame is obeyed and never answered"
-abbrev pub obeyed : Frame → Bool
-obeyed Frame.Nothing = false
-obeyed Frame.Alone = true
-obeyed Frame.Group = true
+-- for this unit or its groups: "A group frame is obeyed and never answered"
+abbrev pub ours : Frame → Bool
+ours Frame.Nothing = false
+ours Frame.Alone = true
+ours Frame.Group = true
 
 -- the receiver: where it stands, how many bytes of a body it keeps, and the bytes, with what earlier frames left behind them
 pub record Receiver : Type 0 where
@@ -90,18 +78,18 @@ finished Frame.Alone g r = record { receiver = r; frame = Frame.Alone; framing =
 finished Frame.Group g r = record { receiver = r; frame = Frame.Group; framing = g }
 
 -- after an address byte: the body of a frame for this unit or its groups begins; a frame for others is not looked at
-abbrev pub begun : Frame → Receiver → Receiver
-begun Frame.Nothing r = placed Place.Outside r
-begun Frame.Alone r = receiverAt Place.Alone 0 (r .body)
-begun Frame.Group r = receiverAt Place.Group 0 (r .body)
+abbrev pub begunPlain : Frame → Receiver → Receiver
+begunPlain Frame.Nothing r = placed Place.Outside r
+begunPlain Frame.Alone r = receiverAt Place.Alone 0 (r .body)
+begunPlain Frame.Group r = receiverAt Place.Group 0 (r .body)
 
 -- one body byte more; a byte past the most that is kept is not
 unfoldable pub stored : ℕ → Receiver → Receiver
 stored b r = cond (ltb (r .length) mostKept) (receiverAt (r .place) (r .length + 1) (set (r .body) (r .length) b)) r
 
 -- in a frame of the plain framing: a CR ends it, another byte does not
-abbrev pub closed : Frame → ℕ → Receiver → Stepped → Stepped
-closed w b r other = cond (eqb b cr) (finished w Framing.Plain (placed Place.Outside r)) other
+abbrev pub closedByCr : Frame → ℕ → Receiver → Stepped → Stepped
+closedByCr w b r other = cond (eqb b cr) (finished w Framing.Plain (placed Place.Outside r)) other
 
 -- in one of the OEM framing: "03 as address or sequence byte drops the frame"
 abbrev pub unless03 : ℕ → Receiver → Receiver → Stepped
@@ -116,24 +104,24 @@ heard w q = cond (good q) w Frame.Nothing
 
 -- after the sequence byte: the body of a frame for this unit or its groups begins; of one for others only the place is kept
 abbrev pub begunOem : Frame → ℕ → ℕ → Receiver → Receiver
-begunOem w q s r = receiverAt (Place.OemBody w q s) (cond (obeyed w) 0 (r .length)) (r .body)
+begunOem w q s r = receiverAt (Place.OemBody w q s) (cond (ours w) 0 (r .length)) (r .body)
 
 -- one body byte more, of a frame for this unit or its groups
 abbrev pub storedFor : Frame → ℕ → Receiver → Receiver
-storedFor w b r = cond (obeyed w) (stored b r) r
+storedFor w b r = cond (ours w) (stored b r) r
 
 -- any other byte: "Bytes outside a frame, LF included, are skipped"; "a CR in the address place ends the frame with no effect"
-abbrev pub taken : Place → ℕ → ℕ → Receiver → Stepped
-taken Place.Outside u b r = quiet r
-taken Place.Address u b r = closed Frame.Nothing b r (quiet (begun (calledOf u b) r))
-taken Place.Alone u b r = closed Frame.Alone b r (quiet (stored b r))
-taken Place.Group u b r = closed Frame.Group b r (quiet (stored b r))
-taken Place.OemAddress u b r = unless03 b r (placed (Place.OemSequence (calledOf u b) (xor stx b)) r)
-taken (Place.OemSequence w s) u b r = unless03 b r (begunOem (heard w b) b (xor s b) r)
-taken (Place.OemBody w q s) u b r =
+abbrev pub otherByte : Place → ℕ → ℕ → Receiver → Stepped
+otherByte Place.Outside u b r = quiet r
+otherByte Place.Address u b r = closedByCr Frame.Nothing b r (quiet (begunPlain (calledOf u b) r))
+otherByte Place.Alone u b r = closedByCr Frame.Alone b r (quiet (stored b r))
+otherByte Place.Group u b r = closedByCr Frame.Group b r (quiet (stored b r))
+otherByte Place.OemAddress u b r = unless03 b r (placed (Place.OemSequence (calledOf u b) (xor stx b)) r)
+otherByte (Place.OemSequence w s) u b r = unless03 b r (begunOem (heard w b) b (xor s b) r)
+otherByte (Place.OemBody w q s) u b r =
     quiet (cond (eqb b etx) (placed (Place.OemSum w q (xor s b)) r) (storedFor w b (placed (Place.OemBody w q (xor s b)) r)))
 -- "a wrong checksum .. makes the feed skip the frame"
-taken (Place.OemSum w q s) u b r =
+otherByte (Place.OemSum w q s) u b r =
     cond (eqb b s) (finished w (Framing.Oem q) (placed Place.Outside r)) (quiet (placed Place.Outside r))
 
 -- "02 or `/` begins a new frame everywhere but in the checksum place"
@@ -151,24 +139,24 @@ abbrev pub begins : ℕ → Place → ℕ → Bool
 begins x p b = eqb b x && elsewhere p
 
 -- one byte: a new frame "drops an unfinished one"
-unfoldable pub stepOf : Receiver → ℕ → ℕ → Stepped
-stepOf r u b =
+unfoldable pub byteReceived : Receiver → ℕ → ℕ → Stepped
+byteReceived r u b =
     cond (begins slash (r .place) b) (quiet (placed Place.Address r))
     (cond (begins stx (r .place) b) (quiet (placed Place.OemAddress r))
-    (taken (r .place) u b r))
+    (otherByte (r .place) u b r))
 
 -- an answer with k bytes consumed before it
 abbrev pub past : ℕ → Received → Received
 past k f = record { receiver = f .receiver; consumed = k + f .consumed; frame = f .frame; framing = f .framing }
 
 -- "consumes up to and with the CR", or the checksum, "of the first frame for this unit or its groups": the call ends at this byte, or goes on
-abbrev pub ended : Stepped → Received
-ended s = record { receiver = s .receiver; consumed = 1; frame = s .frame; framing = s .framing }
+abbrev pub endedHere : Stepped → Received
+endedHere s = record { receiver = s .receiver; consumed = 1; frame = s .frame; framing = s .framing }
 
 abbrev pub onward : Stepped → Received → Received
-onward s rest = cond (obeyed (s .frame)) (ended s) (past 1 rest)
+onward s rest = cond (ours (s .frame)) (endedHere s) (past 1 rest)
 
 -- a feed call, one step a byte: "else all it was given, and reports how many bytes that was"
 unfoldable pub receiveOf : Receiver → ℕ → List ℕ → Received
 receiveOf r u [] = record { receiver = r; consumed = 0; frame = Frame.Nothing; framing = Framing.Plain }
-receiveOf r u (b ∷ bs) = onward (stepOf r u b) (receiveOf (stepOf r u b .receiver) u bs)
+receiveOf r u (b ∷ bs) = onward (byteReceived r u b) (receiveOf (byteReceived r u b .receiver) u bs)

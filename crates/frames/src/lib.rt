@@ -5,8 +5,8 @@ ghost use Prim.Native.Nat.{ℕ, _<_};
 ghost use mathlib.Core.Bool.{true, not};
 ghost use lib.ListN.{length};
 ghost use Rattle.frames.specs.Addresses.{calledOf};
-ghost use Rattle.frames.specs.Receive.{obeyed, receiverAt, receiverOf, heardWith, freshProgress, quiet, finished, begun, stored, closed};
-ghost use Rattle.frames.specs.Receive.{heard, begunOem, begins, elsewhere, taken, stepOf, receiveOf};
+ghost use Rattle.frames.specs.Receive.{ours, receiverAt, receiverOf, heardWith, freshProgress, quiet, finished, begunPlain, stored, closedByCr};
+ghost use Rattle.frames.specs.Receive.{heard, begunOem, begins, elsewhere, otherByte, byteReceived, receiveOf};
 ghost use Rattle.frames.specs.Pieces.{completed, isOutside, leavesBody, inPlain, quietAt, wholeOf, steppedAt, Advances};
 ghost use Rattle.frames.specs.declared.Place.{Place};
 ghost use Rattle.frames.specs.Claims.{FrameClaims};
@@ -153,7 +153,7 @@ fn apart(h: Head, consumed: usize, frame: Frame, framing: Framing) -> Heard
 
 // Whether a feed call ends here: a frame for this unit or its groups is complete.
 fn ends(f: Frame) -> bool
-    ensures { λ r. ⌜ r ≡ obeyed f ⌝ }
+    ensures { λ r. ⌜ r ≡ ours f ⌝ }
 {
     match f {
         Frame::Nothing => false,
@@ -184,7 +184,7 @@ fn advance(h: Head, body: &mut [u8; MOST_KEPT], unit: u8, bytes: &[u8], i: usize
 
 // The bytes of a plain body, up to and with the one that ends it.
 fn keep(place: Place, kept: usize, body: &mut [u8; MOST_KEPT], bytes: &[u8], i: usize) -> Advanced
-    requires { ⌜ (i < length (now bytes)) × (obeyed (completed place) ≡ true) ⌝ }
+    requires { ⌜ (i < length (now bytes)) × (ours (completed place) ≡ true) ⌝ }
     ensures { λ a. ⌜ ((u : ℕ) → Advances (receiverAt place kept (now (body .entry))) u (now (bytes .entry)) i a (now (body .exit))) ⌝ }
 {
     let mut n = kept;
@@ -239,7 +239,7 @@ fn look_out(kept: usize, bytes: &[u8], i: usize) -> Advanced
 
 // What one byte makes of the receiver.
 fn step(place: Place, length: usize, body: &mut [u8; MOST_KEPT], unit: u8, b: u8) -> Head
-    ensures { λ s. ⌜ steppedAt s (now (body .exit)) ≡ stepOf (receiverAt place length (now (body .entry))) unit b ⌝ }
+    ensures { λ s. ⌜ steppedAt s (now (body .exit)) ≡ byteReceived (receiverAt place length (now (body .entry))) unit b ⌝ }
 {
     if opens(SLASH, place, b) {
         return at(Place::Address, length);
@@ -279,7 +279,7 @@ fn summing(p: Place) -> bool
 // A byte that begins no frame.
 fn take(place: Place, length: usize, body: &mut [u8; MOST_KEPT], unit: u8, b: u8) -> Head
     ensures { λ s. ⌜
-        steppedAt s (now (body .exit)) ≡ taken place unit b (receiverAt place length (now (body .entry)))
+        steppedAt s (now (body .exit)) ≡ otherByte place unit b (receiverAt place length (now (body .entry)))
         ⌝ }
 {
     match place {
@@ -296,7 +296,7 @@ fn take(place: Place, length: usize, body: &mut [u8; MOST_KEPT], unit: u8, b: u8
 
 // Whether the receiver stands in a plain body.
 fn inside(p: Place) -> bool
-    ensures { λ r. ⌜ r ≡ obeyed (completed p) ⌝ }
+    ensures { λ r. ⌜ r ≡ ours (completed p) ⌝ }
 {
     ends(completes(p))
 }
@@ -397,7 +397,7 @@ fn leave(w: Frame, length: usize, b: u8) -> Head
 fn add(w: Frame, place: Place, length: usize, body: &mut [u8; MOST_KEPT], b: u8) -> Head
     ensures { λ s. ⌜
         steppedAt s (now (body .exit))
-        ≡ closed w b (receiverAt place length (now (body .entry)))
+        ≡ closedByCr w b (receiverAt place length (now (body .entry)))
         (quiet (stored b (receiverAt place length (now (body .entry)))))
         ⌝ }
 {
@@ -420,7 +420,7 @@ fn store(place: Place, length: usize, body: &mut [u8; MOST_KEPT], b: u8) -> Head
 
 // In the address place of a plain frame.
 fn in_address(length: usize, unit: u8, b: u8) -> Head
-    ensures { λ s. ⌜ ((body : List ℕ) → steppedAt s body ≡ taken Place.Address unit b (receiverAt Place.Address length body)) ⌝ }
+    ensures { λ s. ⌜ ((body : List ℕ) → steppedAt s body ≡ otherByte Place.Address unit b (receiverAt Place.Address length body)) ⌝ }
 {
     if b == CR {
         return at(Place::Outside, length);
@@ -430,7 +430,7 @@ fn in_address(length: usize, unit: u8, b: u8) -> Head
 
 // After an address byte that calls c: a body begins, or the frame is not looked at.
 fn begin(length: usize, c: Frame) -> Head
-    ensures { λ s. ⌜ ((p : Place) (body : List ℕ) → steppedAt s body ≡ quiet (begun c (receiverAt p length body))) ⌝ }
+    ensures { λ s. ⌜ ((p : Place) (body : List ℕ) → steppedAt s body ≡ quiet (begunPlain c (receiverAt p length body))) ⌝ }
 {
     match c {
         Frame::Nothing => at(Place::Outside, length),
@@ -441,7 +441,7 @@ fn begin(length: usize, c: Frame) -> Head
 
 // In the address place of an OEM frame.
 fn in_oem_address(length: usize, unit: u8, b: u8) -> Head
-    ensures { λ s. ⌜ ((body : List ℕ) → steppedAt s body ≡ taken Place.OemAddress unit b (receiverAt Place.OemAddress length body)) ⌝ }
+    ensures { λ s. ⌜ ((body : List ℕ) → steppedAt s body ≡ otherByte Place.OemAddress unit b (receiverAt Place.OemAddress length body)) ⌝ }
 {
     if b == ETX {
         return at(Place::Outside, length);
@@ -456,7 +456,7 @@ fn in_oem_address(length: usize, unit: u8, b: u8) -> Head
 fn in_oem_sequence(w: Frame, s: u8, length: usize, b: u8) -> Head
     ensures { λ r. ⌜
         ((u : ℕ) (body : List ℕ)
-        → steppedAt r body ≡ taken (Place.OemSequence w s) u b (receiverAt (Place.OemSequence w s) length body))
+        → steppedAt r body ≡ otherByte (Place.OemSequence w s) u b (receiverAt (Place.OemSequence w s) length body))
         ⌝ }
 {
     if b == ETX {
@@ -493,7 +493,7 @@ fn in_oem_body(w: Frame, q: u8, s: u8, length: usize, body: &mut [u8; MOST_KEPT]
     ensures { λ r. ⌜
         ((u : ℕ)
         → steppedAt r (now (body .exit))
-        ≡ taken (Place.OemBody w q s) u b (receiverAt (Place.OemBody w q s) length (now (body .entry))))
+        ≡ otherByte (Place.OemBody w q s) u b (receiverAt (Place.OemBody w q s) length (now (body .entry))))
         ⌝ }
 {
     let sum = checksum::with_byte(s, b);
@@ -510,7 +510,7 @@ fn in_oem_body(w: Frame, q: u8, s: u8, length: usize, body: &mut [u8; MOST_KEPT]
 fn in_oem_sum(w: Frame, q: u8, s: u8, length: usize, b: u8) -> Head
     ensures { λ r. ⌜
         ((u : ℕ) (body : List ℕ)
-        → steppedAt r body ≡ taken (Place.OemSum w q s) u b (receiverAt (Place.OemSum w q s) length body))
+        → steppedAt r body ≡ otherByte (Place.OemSum w q s) u b (receiverAt (Place.OemSum w q s) length body))
         ⌝ }
 {
     if b == s {

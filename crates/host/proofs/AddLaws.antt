@@ -9,7 +9,7 @@ use native.Mathlib.Numerals.{add-one}
 use lib.ListN.{length, getD, take, drop, length-append, take-append-drop}
 use lib.Seq.{take-suc, take-take}
 use borrow.Author.Tests.{le-leb, lt-leb, leb-true, leb-false}
-use Rattle.parts.specs.Parts.{put, room}
+use Rattle.parts.specs.Parts.{put, fitsAt}
 use Rattle.parts.proofs.Laws.{put-in-room, put-more, length-put}
 use Rattle.digits.specs.declared.Written.{Written}
 use Rattle.digits.specs.declared.Written.the-variants.{Past, NoRoom}
@@ -38,9 +38,9 @@ pub record Fits (line : List ℕ) (at : ℕ) (text : List ℕ) (n : ℕ) (after 
   pub bytes : after ≡ put line at text
 
 pub fits : {line : List ℕ} {at : ℕ} {text : List ℕ} {n : ℕ} {after : List ℕ} → AddedIs line at text (Past n) after → Fits line at text n after
-fits {line} {at} {text} {n} {after} a = go (room line at (length text)) refl (a .answers)
+fits {line} {at} {text} {n} {after} a = go (fitsAt line at (length text)) refl (a .answers)
   where
-    go : (b : Bool) → room line at (length text) ≡ b → Past n ≡ cond b (Past (at + length text)) NoRoom → Fits line at text n after
+    go : (b : Bool) → fitsAt line at (length text) ≡ b → Past n ≡ cond b (Past (at + length text)) NoRoom → Fits line at text n after
     go true e k =
         let h : at + length text ≤ length line = leb-true _ _ e in
         record { past = cc; inside = h; bytes = a .leaves h }
@@ -54,9 +54,9 @@ added-inside a = let f = fits a in omega (arith, f .past, f .inside, added-lengt
 
 -- it does not fit
 pub too-long : {line : List ℕ} {at : ℕ} {text after : List ℕ} → AddedIs line at text NoRoom after → length line < at + length text
-too-long {line} {at} {text} a = go (room line at (length text)) refl (a .answers)
+too-long {line} {at} {text} a = go (fitsAt line at (length text)) refl (a .answers)
   where
-    go : (b : Bool) → room line at (length text) ≡ b → NoRoom ≡ cond b (Past (at + length text)) NoRoom → length line < at + length text
+    go : (b : Bool) → fitsAt line at (length text) ≡ b → NoRoom ≡ cond b (Past (at + length text)) NoRoom → length line < at + length text
     go true e k = let z : _≡_ {A = ℕ} 0 1 = cc in absurd (omega arith)
     go false e k = leb-false _ _ e
 

@@ -1,39 +1,35 @@
 -- What is claimed of the host's lines, each by the three ways in which a list may be answered (`answered`). Assumes nothing.
-use Prim.Native.Nat.{ℕ, zero, suc, _+_, _/_, _≤_, _<_}
+use Prim.Native.Nat.{ℕ, zero, suc, _+_, _/_, _%_, _≤_, _<_}
 use mathlib.Core.Path.{_≡_, refl, sym, ap, _∙_}
-use mathlib.Core.List.{List, [], _∷_, _++_}
-use mathlib.Core.Bool.{Bool, true, false, cond}
+use mathlib.Core.List.{List, [], _∷_, _++_, append-assoc}
+use mathlib.Core.Bool.{Bool, true, false, cond, _||_}
 use native.Mathlib.Omega.{arith}
 use native.Mathlib.Nat.{zero-add}
 use native.Mathlib.Decide.{decLt}
 use lib.ListN.{length, getD, take, length-append, List·getD-append}
 use lib.Dec.{ltb, eqb}
-use borrow.Author.Tests.{leb-true, leb-false, eqb-true, eqb-false, ne-eqb}
-use Rattle.parts.specs.Parts.{room, put, same}
+use borrow.Author.Tests.{lt-ltb, le-ltb, leb-true, leb-false, eqb-true, eqb-false, ne-eqb}
+use Rattle.parts.specs.Parts.{fitsAt, put, same, mostBytes}
 use Rattle.parts.proofs.Laws.{take-put, drop-put, length-put, put-front}
+use Rattle.parts.specs.Letters.{bytes}
 use Rattle.digits.specs.Decimal.{digitsIn, digitsOf, ascii, decimal}
 use Rattle.digits.proofs.Writing.{decimal-last, decimal-more, length-some}
 use Rattle.commands.specs.declared.Command.{Command}
 use Rattle.commands.specs.declared.Fault.{Fault}
-use Rattle.commands.specs.declared.Spelling.{Spelling}
-use Rattle.commands.specs.declared.Spelling.the-variants.{Alone, WithNumber, WithTwoDigits}
-use Rattle.commands.specs.Table.{oneOf}
-use Rattle.commands.specs.Writing.{twoDigits, bytesOf, spelled, spellingOf, zeroed}
+use Rattle.commands.specs.Table.{oneOf, table, find, commandOf}
+use Rattle.commands.specs.Writing.{twoDigits, spelled}
 use Rattle.commands.proofs.WritingLaws.{letter-written, spelling-some}
-use Rattle.lines.specs.declared.Slot.{Slot}
 use Rattle.lines.specs.declared.Slot.the-variants.{NoSlot, Into}
-use Rattle.lines.specs.Texts.{mostBytes, structured}
-use Rattle.lines.specs.Bodies.{bodyOf, lineFault, lineCode}
-use Rattle.lines.specs.Examples.{bytes}
-use Rattle.lines.specs.Lists.{HostList, slotText, commandsText, runText, writtenOf, allInRange, listFault, listCode, list, listOf}
-use Rattle.lines.proofs.ListLaws.{list-law, list-back, spelled-taken}
-use Rattle.lines.proofs.SpellLaws.{reads-spelled}
+use Rattle.lines.specs.Texts.{structured}
+use Rattle.lines.specs.Bodies.{bodyOf, lineCode}
+use Rattle.lines.specs.Lists.{HostList, slotSpelled, commandsText, runText, writtenOf, allInRange, listFault, listCode, list, listOf}
+use Rattle.lines.proofs.ListLaws.{list-law, list-back}
 use Rattle.lines.proofs.CodeLaws.{codes}
 use Rattle.lines.proofs.FaultLaws.{over-long}
 use Rattle.host.specs.declared.LineWritten.{LineWritten}
 use Rattle.host.specs.declared.LineWritten.the-variants.{Bytes, Refused, NoRoom}
-use Rattle.host.specs.Host.{hostList, codeOf, placeOf, faultOf, fitted, answerOf, codeIn, leftBy, LineIs}
-use Rattle.host.specs.Claims.{emptyList, k8List, slotList, PlainCommands, none, more, PlainSlot, without, into, SpellsPlainly, plainly, LineWrittenIs, LineRefusedIs, LineShortIs}
+use Rattle.host.specs.Host.{hostList, codeOf, placeOf, faultOf, fitted, answerOf, codeIn, lineName, leftBy, LineIs}
+use Rattle.host.specs.Claims.{emptyList, k8List, slotList, hostListed, numbered, twoDigited, Written, LineWrittenIs, LineRefusedIs, LineShortIs}
 use Rattle.host.proofs.LineLaws.{code-few, code-long}
 
 -- ---- the three ways
@@ -47,7 +43,7 @@ module _ {l : HostList} {count : ℕ} {buffer after : List ℕ} {answer : LineWr
   unfolding answerOf
   answered P w s r = rw (p .answers, p .leaves) (go (eqb (codeOf l count) 0) refl)
     where
-      fit : (b : Bool) → room buffer 0 (length (writtenOf l)) ≡ b → codeOf l count ≡ 0
+      fit : (b : Bool) → fitsAt buffer 0 (length (writtenOf l)) ≡ b → codeOf l count ≡ 0
           → P (cond b (Bytes (length (writtenOf l))) NoRoom) (leftBy (cond b (Bytes (length (writtenOf l))) NoRoom) l buffer)
       fit true e z = let h = leb-true (0 + length (writtenOf l)) (length buffer) e in w z (omega arith)
       fit false e z = let h = leb-false (0 + length (writtenOf l)) (length buffer) e in s z (omega arith)
@@ -55,17 +51,17 @@ module _ {l : HostList} {count : ℕ} {buffer after : List ℕ} {answer : LineWr
       go : (b : Bool) → eqb (codeOf l count) 0 ≡ b
           → P (cond b (fitted buffer (length (writtenOf l))) (Refused (faultOf l count)))
           (leftBy (cond b (fitted buffer (length (writtenOf l))) (Refused (faultOf l count))) l buffer)
-      go true e = fit (room buffer 0 (length (writtenOf l))) refl (eqb-true (codeOf l count) 0 e)
+      go true e = fit (fitsAt buffer 0 (length (writtenOf l))) refl (eqb-true (codeOf l count) 0 e)
       go false e = r (eqb-false (codeOf l count) 0 e)
 
-  pub its-code : codeIn answer ≡ codeOf l count
-  its-code = answered (λ a x. codeIn a ≡ codeOf l count) (λ z h. sym z) (λ z h. sym z) (λ z. refl)
+  pub refused-where : (codeOf l count ≡ 0 → ⊥) → (lineName answer ≡ "the line check's code") × (codeIn answer ≡ codeOf l count)
+  refused-where n = answered (λ a x. (lineName a ≡ "the line check's code") × (codeIn a ≡ codeOf l count)) (λ z h. absurd (n z)) (λ z h. absurd (n z)) (λ z. (refl, refl))
 
-  pub written-where : codeOf l count ≡ 0 → length (writtenOf l) ≤ length buffer → answer ≡ Bytes (length (writtenOf l))
-  written-where z h = answered (λ a x. a ≡ Bytes (length (writtenOf l))) (λ y g. refl) (λ y g. absurd (omega arith)) (λ y. absurd (y z))
+  pub written-where : codeOf l count ≡ 0 → length (writtenOf l) ≤ length buffer → (lineName answer ≡ "written") × (answer ≡ Bytes (length (writtenOf l)))
+  written-where z h = answered (λ a x. (lineName a ≡ "written") × (a ≡ Bytes (length (writtenOf l)))) (λ y g. (refl, refl)) (λ y g. absurd (omega arith)) (λ y. absurd (y z))
 
-  pub short-where : codeOf l count ≡ 0 → length buffer < length (writtenOf l) → answer ≡ NoRoom
-  short-where z h = answered (λ a x. a ≡ NoRoom) (λ y g. absurd (omega arith)) (λ y g. refl) (λ y. absurd (y z))
+  pub short-where : codeOf l count ≡ 0 → length buffer < length (writtenOf l) → lineName answer ≡ "buffer too short"
+  short-where z h = answered (λ a x. lineName a ≡ "buffer too short") (λ y g. absurd (omega arith)) (λ y g. refl) (λ y. absurd (y z))
 
 -- ---- what each answer says
 
@@ -131,6 +127,10 @@ module _ (l : HostList) (count : ℕ) (buffer : List ℕ) where
 pub line-check : (l : HostList) (count : ℕ) → count ≤ mostBytes → codeOf l count ≡ lineCode (writtenOf l)
 line-check l count h = code-few l count h ∙ sym (list-law l)
 
+pub count-over : (l : HostList) (count : ℕ) → mostBytes < count → codeOf l count ≡ 2
+unfolding codeOf
+count-over l count h = rw (lt-ltb mostBytes count h)
+
 pub no-place : (l : HostList) (count : ℕ) → mostBytes < length (writtenOf l) → placeOf l count ≡ 0
 unfolding placeOf
 no-place l count h = rw (over-long (writtenOf l) h) (none (ltb mostBytes count))
@@ -150,7 +150,7 @@ pub too-many : (l : HostList) → mostBytes < length (l .listed) → listCode l 
 unfolding writtenOf
 too-many l h =
     let t : List ℕ = commandsText (l .listed) ++ runText (l .run) in
-    code-long l (omega (arith, commands-bytes (l .listed), length-append (slotText (l .slot)) t, length-append (commandsText (l .listed)) (runText (l .run))))
+    code-long l (omega (arith, commands-bytes (l .listed), length-append (slotSpelled (l .slot)) t, length-append (commandsText (l .listed)) (runText (l .run))))
 
 -- ---- the empty list
 
@@ -174,63 +174,72 @@ empty-answer commands {buffer} p = answered p (λ a x. (a ≡ Bytes 0) × (x ≡
     (λ z h. absurd (omega arith))
     (λ z. absurd (z empty-code))
 
--- ---- the plain spelling
+-- ---- how a list is written
 
-plain-bytes : (sp : Spelling) → zeroed sp 0 ≡ bytesOf sp
-plain-bytes (Alone l) = refl
-plain-bytes (WithNumber l n) = refl
-plain-bytes (WithTwoDigits l n) = refl
-
-plain-command : (c : Command) → zeroed (spellingOf c) 0 ≡ spelled c
-unfolding spelled
-plain-command c = plain-bytes (spellingOf c)
-
-slot-plainly : (s : Slot) → PlainSlot s (slotText s)
-slot-plainly NoSlot = without
-slot-plainly (Into n) = into n
-
-commands-plainly : (cs : List Command) → PlainCommands cs (commandsText cs)
-unfolding commandsText
-commands-plainly [] = none
-commands-plainly (c ∷ cs) = rw (← plain-command c) (more c (commands-plainly cs))
-
-pub written-plainly : (l : HostList) → SpellsPlainly l (writtenOf l)
+slot-first : (n : ℕ) (cs : List Command) (run : Bool) → writtenOf (hostListed (Into n) cs run) ≡ 115 ∷ (decimal n ++ writtenOf (hostListed NoSlot cs run))
 unfolding writtenOf
-written-plainly l = plainly (l .run) (slot-plainly (l .slot)) (commands-plainly (l .listed))
+slot-first n cs run = refl
 
-plain-slot : {s : Slot} {b : List ℕ} → PlainSlot s b → b ≡ slotText s
-plain-slot without = refl
-plain-slot (into n) = refl
+command-first : (c : Command) (cs : List Command) (run : Bool) → writtenOf (hostListed NoSlot (c ∷ cs) run) ≡ spelled c ++ writtenOf (hostListed NoSlot cs run)
+unfolding writtenOf commandsText
+command-first c cs run = append-assoc (spelled c) (commandsText cs) (runText run)
 
-plain-commands : {cs : List Command} {b : List ℕ} → PlainCommands cs b → b ≡ commandsText cs
-unfolding commandsText
-plain-commands none = refl
-plain-commands (more c p) = rw (plain-command c) (ap (λ (t : List ℕ). spelled c ++ t) (plain-commands p))
+run-last : (run : Bool) → writtenOf (hostListed NoSlot [] run) ≡ cond run (bytes "R") []
+unfolding writtenOf commandsText
+run-last true = refl
+run-last false = refl
 
-pub plain-written : {l : HostList} {b : List ℕ} → SpellsPlainly l b → b ≡ writtenOf l
-unfolding writtenOf
-plain-written (plainly run s p) = rw (plain-slot s, plain-commands p)
+-- what holds of each letter of a list
+abbrev Every : (ℕ → Type 0) → List ℕ → Type 0
+Every P [] = Unit
+Every P (x ∷ xs) = P x × Every P xs
 
-plain-code : (l m : HostList) {b : List ℕ} → b ≡ writtenOf l → listOf b ≡ list m → listCode l ≡ 0
-plain-code l m {b} e f =
-    let k = reads-spelled b m f in
-    sym (list-law l) ∙ sym (ap lineCode e) ∙ spelled-taken (k .short) (k .spells) (k .no-fault) .0
+one-letter : (P : ℕ → Type 0) (xs : List ℕ) (l : ℕ) → Every P xs → oneOf xs l ≡ true → P l
+unfolding oneOf
+one-letter P [] l h e = let z : _≡_ {A = ℕ} 0 1 = cc in absurd (omega arith)
+one-letter P (x ∷ xs) l h e = go (eqb l x) refl e (one-letter P xs l (h .1))
+  where
+    go : (b : Bool) → eqb l x ≡ b → (b || oneOf xs l) ≡ true → (oneOf xs l ≡ true → P l) → P l
+    go true f g rest = rw (eqb-true l x f) (h .0)
+    go false f g rest = rest g
 
-pub plain-back : {l m : HostList} {b : List ℕ} → SpellsPlainly l b → listOf b ≡ list m → b ≡ writtenOf m
-plain-back {l} {m} {b} p f =
-    let e = plain-written p in
-    let g : list l ≡ list m = sym (list-back l (plain-code l m e f)) ∙ sym (ap listOf e) ∙ f in
-    let h : l ≡ m = cc in
-    e ∙ ap writtenOf h
+begins-alone : (n : ℕ) → spelled (commandOf 103 n) ≡ bytes "g"
+unfolding spelled commandOf table find
+begins-alone n = refl
+
+with-number : (l n : ℕ) → oneOf numbered l ≡ true → spelled (commandOf l n) ≡ l ∷ decimal n
+unfolding spelled commandOf table find
+with-number l n e =
+    one-letter (λ (m : ℕ). spelled (commandOf m n) ≡ m ∷ decimal n) numbered l
+    (refl, (refl, (refl, (refl, (refl, (refl, (refl, (refl, (refl, (refl, (refl, (refl, (refl, (refl, (refl, (refl, (refl, (refl, tt)))))))))))))))))) e
+
+two-so : (n : ℕ) → n < 100 → twoDigits n ≡ (48 + n / 10) ∷ (48 + n % 10) ∷ []
+unfolding twoDigits
+two-so n h = go (decLt n 10)
+  where
+    go : Dec (n < 10) → cond (ltb n 10) (48 ∷ decimal n) (decimal n) ≡ (48 + n / 10) ∷ (48 + n % 10) ∷ []
+    go (yes l) =
+        let a : n / 10 ≡ 0 = omega arith in
+        let b : n % 10 ≡ n = omega arith in
+        rw (lt-ltb n 10 l, decimal-last n l, a, b)
+    go (no m) =
+        let g : 10 ≤ n = omega arith in
+        rw (le-ltb n 10 g, decimal-more n g, decimal-last (n / 10) (omega arith))
+
+with-two-digits : (l n : ℕ) → oneOf twoDigited l ≡ true → n < 100 → spelled (commandOf l n) ≡ l ∷ (48 + n / 10) ∷ (48 + n % 10) ∷ []
+unfolding spelled commandOf table find
+with-two-digits l n e h =
+    let two : (m : ℕ) → m ∷ twoDigits n ≡ m ∷ (48 + n / 10) ∷ (48 + n % 10) ∷ [] = λ m. ap (λ (t : List ℕ). m ∷ t) (two-so n h) in
+    one-letter (λ (m : ℕ). spelled (commandOf m n) ≡ m ∷ (48 + n / 10) ∷ (48 + n % 10) ∷ []) twoDigited l (two 72, (two 83, tt)) e
 
 -- ---- lists and their bodies
 
 pub k8-written : writtenOf k8List ≡ bytes "gA0S03e0G0R"
-unfolding writtenOf commandsText spelled twoDigits decimal ascii digitsOf digitsIn bytes
+unfolding writtenOf commandsText spelled twoDigits decimal ascii digitsOf digitsIn
 k8-written = refl
 
 pub slot-written : writtenOf slotList ≡ bytes "s15H02R"
-unfolding writtenOf commandsText spelled twoDigits decimal ascii digitsOf digitsIn bytes
+unfolding writtenOf commandsText spelled twoDigits decimal ascii digitsOf digitsIn
 slot-written = refl
 
 -- ---- no leading zero
@@ -248,8 +257,19 @@ first-digit (suc k) n h g e = go (λ a b f. first-digit k (n / 10) a b f) (decLt
         in
         rest (omega arith) (omega arith) q
 
-pub no-leading-zero : (n : ℕ) → 1 ≤ n → getD (decimal n) 0 0 ≡ 48 → ⊥
+no-leading-zero : (n : ℕ) → 1 ≤ n → getD (decimal n) 0 0 ≡ 48 → ⊥
 no-leading-zero n h e = first-digit n n (omega arith) h e
+
+pub how-written : Written
+how-written = record {
+  slot = slot-first;
+  more = command-first;
+  end = run-last;
+  loop-begin = begins-alone;
+  number = with-number;
+  two-digits = with-two-digits;
+  no-leading-zero = no-leading-zero;
+}
 
 -- ---- no two lists are written alike
 

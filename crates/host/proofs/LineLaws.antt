@@ -8,12 +8,11 @@ use native.Mathlib.Omega.{arith}
 use lib.ListN.{length, take, replicate, length-replicate}
 use lib.Dec.{eqb}
 use borrow.Author.Tests.{lt-ltb, le-ltb, ne-eqb, leb-true, leb-false}
-use Rattle.parts.specs.Parts.{room, PutIs}
+use Rattle.parts.specs.Parts.{fitsAt, PutIs, mostBytes}
 use Rattle.parts.proofs.Laws.{take-put, put-in-room, put-in-full}
 use Rattle.digits.specs.declared.Written.the-variants.{Past, NoRoom}
 use Rattle.commands.specs.declared.Fault.{Fault}
 use Rattle.commands.specs.Reading.{fault}
-use Rattle.lines.specs.Texts.{mostBytes}
 use Rattle.lines.specs.Bodies.{lineFault, lineCode}
 use Rattle.lines.specs.Lists.{HostList, writtenOf, listCode}
 use Rattle.lines.proofs.ListLaws.{list-law}
@@ -87,7 +86,7 @@ module _ (l : HostList) (count : ℕ) (buffer : List ℕ) (few : count ≤ mostB
     unfolding answerOf
     taken f e h = let same : codeOf l count ≡ 0 = sym (ap (λ (x : Fault). x .code) (made-fault f e)) ∙ h in rw same
 
-    fit : {b : Bool} → room buffer 0 (length (writtenOf l)) ≡ b
+    fit : {b : Bool} → fitsAt buffer 0 (length (writtenOf l)) ≡ b
         → fitted buffer (length (writtenOf l)) ≡ cond b (LineWritten.Bytes (length (writtenOf l))) LineWritten.NoRoom
     fit e = ap (λ (b : Bool). cond b (LineWritten.Bytes (length (writtenOf l))) LineWritten.NoRoom) e
 

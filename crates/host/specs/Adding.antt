@@ -1,4 +1,4 @@
--- How a line is made, piece by piece. Assumes nothing.
+-- For the code: how a line is made, piece by piece. Assumes nothing.
 use Prim.Native.Nat.{ℕ, _+_, _≤_}
 use mathlib.Core.List.{List}
 use mathlib.Core.Path.{_≡_}

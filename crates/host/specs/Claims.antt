@@ -1,45 +1,50 @@
 -- What is claimed of the host's lines: what is written reads back, what is left, which list is refused, and how it is spelled.
 -- 01, "The host's list" and the host's row of the outcomes. Assumes nothing.
-use Prim.Native.Nat.{ℕ, _≤_, _<_}
+use Prim.Native.Nat.{ℕ, _+_, _/_, _%_, _≤_, _<_}
 use mathlib.Core.List.{List, [], _∷_, _++_}
-use mathlib.Core.Bool.{Bool, true, false}
+use mathlib.Core.Bool.{Bool, true, false, cond}
 use mathlib.Core.Path.{_≡_}
 use lib.ListN.{length, getD, take, drop}
+use Rattle.parts.specs.Letters.{byte, bytes}
 use Rattle.digits.specs.Decimal.{decimal}
-use Rattle.digits.specs.ReadBack.{spelling}
 use Rattle.commands.specs.declared.Command.{Command}
 use Rattle.commands.specs.declared.Fault.{Fault}
 use Rattle.commands.specs.declared.Command.the-variants.{LoopBegin, LoopEnd, Skip, Jump, Plain}
 use Rattle.commands.specs.declared.Act.the-variants.{MoveTo, WaitInput}
-use Rattle.commands.specs.Table.{oneOf}
-use Rattle.commands.specs.Writing.{spellingOf, zeroed}
+use Rattle.commands.specs.Table.{oneOf, commandOf}
+use Rattle.commands.specs.Writing.{spelled}
 use Rattle.lines.specs.declared.Slot.{Slot}
 use Rattle.lines.specs.declared.Slot.the-variants.{NoSlot, Into}
-use Rattle.lines.specs.Texts.{mostBytes}
 use Rattle.lines.specs.Bodies.{lineFault, lineCode}
-use Rattle.lines.specs.Examples.{bytes}
-use Rattle.lines.specs.Lists.{HostList, runText, writtenOf, listCode, list, listOf}
+use Rattle.lines.specs.Lists.{HostList, writtenOf, listCode, list, listOf}
 use Rattle.host.specs.declared.LineWritten.{LineWritten}
 use Rattle.host.specs.declared.LineWritten.the-variants.{Bytes, Refused, NoRoom}
-use Rattle.host.specs.Host.{hostList, codeOf, placeOf, faultOf, codeIn, LineIs}
+use Rattle.host.specs.Host.{hostList, codeOf, placeOf, faultOf, codeIn, lineName, LineIs}
 
 -- "the empty list": no slot, no commands, no `R`
 abbrev pub emptyList : HostList
 emptyList = record { slot = NoSlot; listed = []; run = false }
 
--- "operands without leading zeros, `H` and `S` as two digits, `G` always with its number"
-pub data PlainCommands : List Command → List ℕ → Type 0 where
-  none : PlainCommands [] []
-  more : (c : Command) {cs : List Command} {b : List ℕ} → PlainCommands cs b
-      → PlainCommands (c ∷ cs) (zeroed (spellingOf c) 0 ++ b)
+abbrev pub hostListed : Slot → List Command → Bool → HostList
+hostListed s cs run = record { slot = s; listed = cs; run = run }
 
-pub data PlainSlot : Slot → List ℕ → Type 0 where
-  without : PlainSlot NoSlot []
-  into : (n : ℕ) → PlainSlot (Into n) (115 ∷ spelling 0 n)
+-- the letters with a number, "`G` always with its number"; those "as two digits"
+abbrev pub numbered : List ℕ
+numbered = bytes "APDzZVLfFmhjoJbMGe"
 
-pub data SpellsPlainly : HostList → List ℕ → Type 0 where
-  plainly : {s : Slot} {cs : List Command} {a b : List ℕ} (run : Bool) → PlainSlot s a → PlainCommands cs b
-      → SpellsPlainly (record { slot = s; listed = cs; run = run }) (a ++ (b ++ runText run))
+abbrev pub twoDigited : List ℕ
+twoDigited = bytes "HS"
+
+-- how a list is written: a slot, its commands one after another, and `R`; each command by its letter
+pub record Written : Type 0 where
+  pub slot : (n : ℕ) (cs : List Command) (run : Bool) → writtenOf (hostListed (Into n) cs run) ≡ byte "s" ∷ (decimal n ++ writtenOf (hostListed NoSlot cs run))
+  pub more : (c : Command) (cs : List Command) (run : Bool) → writtenOf (hostListed NoSlot (c ∷ cs) run) ≡ spelled c ++ writtenOf (hostListed NoSlot cs run)
+  pub end : (run : Bool) → writtenOf (hostListed NoSlot [] run) ≡ cond run (bytes "R") []
+  pub loop-begin : (n : ℕ) → spelled (commandOf (byte "g") n) ≡ bytes "g"
+  pub number : (l n : ℕ) → oneOf numbered l ≡ true → spelled (commandOf l n) ≡ l ∷ decimal n
+  pub two-digits : (l n : ℕ) → oneOf twoDigited l ≡ true → n < 100 → spelled (commandOf l n) ≡ l ∷ (byte "0" + n / 10) ∷ (byte "0" + n % 10) ∷ []
+  -- "without leading zeros": only 0 begins with the digit 0
+  pub no-leading-zero : (n : ℕ) → 1 ≤ n → getD (decimal n) 0 0 ≡ byte "0" → ⊥
 
 -- the list of K8's second line: `/1gA0S03e0G0R`
 abbrev pub k8List : HostList
@@ -79,38 +84,30 @@ pub record HostClaims : Type 0 where
       → LineRefusedIs l count f buffer after
   pub short : {l : HostList} {count : ℕ} {buffer after : List ℕ} → LineIs l count buffer NoRoom after
       → LineShortIs l count buffer after
-  -- each answer comes wherever it may: a list that is taken and fits is written, one that is taken and does not fit is not
+  -- each answer by its name, and wherever it may come: first the code, then the room
+  pub refused-where : {l : HostList} {count : ℕ} {buffer after : List ℕ} {answer : LineWritten} → LineIs l count buffer answer after
+      → (codeOf l count ≡ 0 → ⊥) → (lineName answer ≡ "the line check's code") × (codeIn answer ≡ codeOf l count)
   pub written-where : {l : HostList} {count : ℕ} {buffer after : List ℕ} {answer : LineWritten} → LineIs l count buffer answer after
-      → codeOf l count ≡ 0 → length (writtenOf l) ≤ length buffer → answer ≡ Bytes (length (writtenOf l))
+      → codeOf l count ≡ 0 → length (writtenOf l) ≤ length buffer → (lineName answer ≡ "written") × (answer ≡ Bytes (length (writtenOf l)))
   pub short-where : {l : HostList} {count : ℕ} {buffer after : List ℕ} {answer : LineWritten} → LineIs l count buffer answer after
-      → codeOf l count ≡ 0 → length buffer < length (writtenOf l) → answer ≡ NoRoom
-  -- the code in the answer is the list's, whatever the buffer
-  pub its-code : {l : HostList} {count : ℕ} {buffer after : List ℕ} {answer : LineWritten} → LineIs l count buffer answer after
-      → codeIn answer ≡ codeOf l count
+      → codeOf l count ≡ 0 → length buffer < length (writtenOf l) → lineName answer ≡ "buffer too short"
   -- "list that the line check refuses": the code is the line check's, of the line as it is written
-  pub line-check : (l : HostList) (count : ℕ) → count ≤ mostBytes → codeOf l count ≡ lineCode (writtenOf l)
+  pub line-check : (l : HostList) (count : ℕ) → count ≤ 256 → codeOf l count ≡ lineCode (writtenOf l)
   -- 02, E6: so is the place; a line that passes 256 bytes has none
-  pub line-place : (l : HostList) (count : ℕ) → count ≤ mostBytes → faultOf l count ≡ lineFault (writtenOf l)
-  pub no-place : (l : HostList) (count : ℕ) → mostBytes < length (writtenOf l) → placeOf l count ≡ 0
+  pub line-place : (l : HostList) (count : ℕ) → count ≤ 256 → faultOf l count ≡ lineFault (writtenOf l)
+  pub no-place : (l : HostList) (count : ℕ) → 256 < length (writtenOf l) → placeOf l count ≡ 0
   -- "or whose line passes 256 bytes": so does every list of more than 256 commands
-  pub too-many : (l : HostList) → mostBytes < length (l .listed) → listCode l ≡ 2
+  pub too-many : (l : HostList) → 256 < length (l .listed) → listCode l ≡ 2
+  pub count-over : (l : HostList) (count : ℕ) → 256 < count → codeOf l count ≡ 2
   -- "an empty body reads as the empty list", and the empty list is written as the empty body
   pub empty-reads : listOf [] ≡ list emptyList
   pub empty-written : writtenOf emptyList ≡ []
   pub empty-answer : (commands : List Command) {buffer after : List ℕ} {answer : LineWritten}
       → LineIs (hostList NoSlot commands 0 false) 0 buffer answer after → (answer ≡ Bytes 0) × (after ≡ buffer)
-  -- a list has one plain spelling, which is what is written
-  pub written-plainly : (l : HostList) → SpellsPlainly l (writtenOf l)
-  pub plain-written : {l : HostList} {b : List ℕ} → SpellsPlainly l b → b ≡ writtenOf l
-  -- a body in plain spelling that reads as a list is what is written from that list
-  pub plain-back : {l m : HostList} {b : List ℕ} → SpellsPlainly l b → listOf b ≡ list m → b ≡ writtenOf m
-  -- "without leading zeros": only 0 begins with the digit 0
-  pub no-leading-zero : (n : ℕ) → 1 ≤ n → getD (decimal n) 0 0 ≡ 48 → ⊥
+  -- "operands without leading zeros, `H` and `S` as two digits, `G` always with its number"
+  pub how-written : Written
   -- no two lists that are taken are written alike
   pub written-apart : (l m : HostList) → listCode l ≡ 0 → listCode m ≡ 0 → writtenOf l ≡ writtenOf m → l ≡ m
   -- the list of K8's second line, and one with a slot
   pub k8-written : writtenOf k8List ≡ bytes "gA0S03e0G0R"
   pub slot-written : writtenOf slotList ≡ bytes "s15H02R"
-  -- no second answer and no second buffer meet the promise
-  pub one-answer : {l : HostList} {count : ℕ} {buffer : List ℕ} {r s : LineWritten} {x y : List ℕ}
-      → LineIs l count buffer r x → LineIs l count buffer s y → (r ≡ s) × (x ≡ y)

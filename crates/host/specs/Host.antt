@@ -1,17 +1,17 @@
 -- The host's side: a line written from a list of commands. 01, "The host's list" and the host's row of the outcomes.
 -- Assumes nothing.
 use Prim.Native.Nat.{ℕ}
+use Prim.Native.String.{String}
 use mathlib.Core.List.{List}
 use mathlib.Core.Bool.{Bool, cond}
 use mathlib.Core.Path.{_≡_}
 use lib.ListN.{length, take}
 use lib.Dec.{ltb, eqb}
-use Rattle.parts.specs.Parts.{room, put}
+use Rattle.parts.specs.Parts.{fitsAt, put, mostBytes}
 use Rattle.commands.specs.declared.Command.{Command}
 use Rattle.commands.specs.declared.Fault.{Fault}
-use Rattle.commands.specs.Reading.{fault}
+use Rattle.commands.specs.Reading.{fault, malformed}
 use Rattle.lines.specs.declared.Slot.{Slot}
-use Rattle.lines.specs.Texts.{mostBytes}
 use Rattle.lines.specs.Bodies.{lineFault}
 use Rattle.lines.specs.Lists.{HostList, writtenOf, listCode}
 use Rattle.host.specs.declared.LineWritten.{LineWritten}
@@ -23,7 +23,7 @@ hostList slot commands count run = record { slot = slot; listed = take count com
 
 -- "list that the line check refuses or whose line passes 256 bytes": more than 256 commands do, as each has a byte at least
 unfoldable pub codeOf : HostList → ℕ → ℕ
-codeOf l count = cond (ltb mostBytes count) 2 (listCode l)
+codeOf l count = cond (ltb mostBytes count) malformed (listCode l)
 
 -- 02, E6: the place of the fault, as the line check tells it of the line; "an overlong body has no place"
 unfoldable pub placeOf : HostList → ℕ → ℕ
@@ -34,7 +34,7 @@ faultOf l count = fault (codeOf l count) (placeOf l count)
 
 -- "then buffer too short": so many bytes, or that there is no room for them
 abbrev pub fitted : List ℕ → ℕ → LineWritten
-fitted buffer n = cond (room buffer 0 n) (Bytes n) NoRoom
+fitted buffer n = cond (fitsAt buffer 0 n) (Bytes n) NoRoom
 
 -- "that code, or named refusal"; with the code its place
 unfoldable pub answerOf : HostList → ℕ → List ℕ → LineWritten
@@ -45,6 +45,12 @@ abbrev pub codeIn : LineWritten → ℕ
 codeIn (Bytes n) = 0
 codeIn (Refused f) = f .code
 codeIn NoRoom = 0
+
+-- and its name: "that code, or named refusal"
+abbrev pub lineName : LineWritten → String
+lineName (Bytes n) = "written"
+lineName (Refused f) = "the line check's code"
+lineName NoRoom = "buffer too short"
 
 -- what each answer leaves: the line at the front, bytes past it unchanged; else "buffer unchanged"
 abbrev pub leftBy : LineWritten → HostList → List ℕ → List ℕ

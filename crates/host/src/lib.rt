@@ -1,7 +1,7 @@
 // The host's side: a line written from a list of commands.
 ghost use Prim.Native.Nat.{_≤_};
 ghost use lib.ListN.{take, length};
-ghost use Rattle.lines.specs.Lists.{slotText, commandsText, runText, writtenOf};
+ghost use Rattle.lines.specs.Lists.{slotSpelled, commandsText, runText, writtenOf};
 ghost use Rattle.host.specs.Host.{hostList, LineIs};
 ghost use Rattle.host.specs.Adding.{AddedIs};
 ghost use Rattle.host.specs.Claims.{HostClaims};
@@ -77,7 +77,7 @@ fn make_line(
 
 // Adds s and the slot's number, or nothing.
 fn add_slot(line: &mut [u8], slot: Slot) -> Written
-    ensures { λ r. ⌜ AddedIs (now (line .entry)) 0 (slotText slot) r (now (line .exit)) ⌝ }
+    ensures { λ r. ⌜ AddedIs (now (line .entry)) 0 (slotSpelled slot) r (now (line .exit)) ⌝ }
 {
     let Slot::Into(n) = slot else {
         return Written::Past(0);

@@ -8,14 +8,15 @@ use lib.Dec.{ltb, leb, eqb}
 use lib.ListN.{length, drop}
 use borrow.Author.Tests.{eq-eqb, ne-eqb, lt-ltb, le-leb, eqb-true, ltb-true, leb-true}
 use Rattle.parts.proofs.Laws.{cases}
+use Rattle.parts.specs.Parts.{mostBytes}
 use Rattle.digits.specs.Operand.{operandMost, fewDigits}
-use Rattle.lines.specs.Texts.{mostBytes, olderGood}
+use Rattle.lines.specs.Texts.{olderGood}
 use Rattle.lines.proofs.FewLaws.{good-now}
-use Rattle.image.specs.Image.{imageBytes, rightLength, slots, bodyBytes, startIn, lengthIn, startOf, entryOf, bodyOf, zeros, goodAt, hasSlot, slotBy, slotGood, slotsBy, withText, emptyImage}
+use Rattle.image.specs.Image.{imageBytes, rightLength, slots, bodyBytes, startIn, lengthIn, slotStart, entryOf, slotBody, allZeros, goodAt, hasSlot, slotBy, slotGood, slotsBy, withText, emptyImage}
 use Rattle.image.specs.declared.Checked.{Checked}
 use Rattle.image.specs.declared.Stored.{Stored}
-use Rattle.image.specs.Calls.{checkedBy, checkedOf, olderOf, storedOf, leftBy, afterStore, StoredIs, afterClear, ClearedIs}
-use Rattle.image.specs.Claims.{EverySlotGood, textIn, slotOlder, EverySlotOlder}
+use Rattle.image.specs.Calls.{checkedBy, checkedOf, olderOf, storedOf, storeLeaves, afterStore, StoredIs, afterClear, ClearedIs}
+use Rattle.image.specs.Claims.{EverySlotGood, entryText, slotOlder, EverySlotOlder}
 use Rattle.image.proofs.SlotLaws.{and-left, slots-each, slots-all}
 
 -- ---- the image checked
@@ -60,17 +61,17 @@ tested-last true true true true true false = refl
 tested-last true true true true false true = refl
 tested-last true true true true false false = refl
 
-pub slot-now : (image : List ℕ) (k : ℕ) → slotGood image k ≡ slotOlder image k && fewDigits operandMost (textIn image k)
+pub slot-now : (image : List ℕ) (k : ℕ) → slotGood image k ≡ slotOlder image k && fewDigits operandMost (entryText image k)
 unfolding slotBy goodAt
 slot-now image k =
-    rw (good-now (textIn image k))
-    (tested-last (hasSlot image k) (eqb (startIn (entryOf image k)) (startOf k)) (leb (lengthIn (entryOf image k)) bodyBytes) (olderGood (textIn image k))
-    (fewDigits operandMost (textIn image k)) (zeros (drop (lengthIn (entryOf image k)) (bodyOf image k))))
+    rw (good-now (entryText image k))
+    (tested-last (hasSlot image k) (eqb (startIn (entryOf image k)) (slotStart k)) (leb (lengthIn (entryOf image k)) bodyBytes) (olderGood (entryText image k))
+    (fewDigits operandMost (entryText image k)) (allZeros (drop (lengthIn (entryOf image k)) (slotBody image k))))
 
 pub good-before : (image : List ℕ) → checkedOf image ≡ Checked.Good → olderOf image ≡ Checked.Good
 good-before image e =
     let k = good-means image e in
-    when-by mostBytes image (k .0) (λ j l. and-left (slotOlder image j) (fewDigits operandMost (textIn image j)) (sym (slot-now image j) ∙ k .1 j l))
+    when-by mostBytes image (k .0) (λ j l. and-left (slotOlder image j) (fewDigits operandMost (entryText image j)) (sym (slot-now image j) ∙ k .1 j l))
 
 -- ---- a store
 
@@ -79,7 +80,7 @@ pub store-cases : (P : List ℕ → Type 0) (image : List ℕ) (k : ℕ) (text :
     → (length image ≡ imageBytes → k < slots → length text ≤ bodyBytes → P (withText image k text)) → P (afterStore image k text)
 unfolding afterStore storedOf
 store-cases P image k text same done =
-    let Q : Stored → Type 0 = λ r. P (leftBy r image k text) in
+    let Q : Stored → Type 0 = λ r. P (storeLeaves r image k text) in
     cases
     Q
     (rightLength image)
@@ -132,7 +133,7 @@ after-done image k text e = rw e
 
 -- a store that answers so leaves what its answer says
 pub stored-as : (image : List ℕ) (slot : ℕ) (text : List ℕ) (answer : Stored) → storedOf image slot text ≡ answer
-    → StoredIs image slot text answer (leftBy answer image slot text)
+    → StoredIs image slot text answer (storeLeaves answer image slot text)
 unfolding afterStore
 stored-as image slot text answer e = record { answers = sym e; leaves = rw e }
 

@@ -13,10 +13,10 @@ use borrow.Author.Tests.{eqb-true}
 use Rattle.parts.specs.Parts.{part, padded}
 use Rattle.parts.proofs.Laws.{cases, length-padded}
 use Rattle.digits.specs.Operand.{operandMost}
-use Rattle.image.specs.Image.{imageBytes, rightLength, slots, entryBytes, entryOf, bodyBytes, startOf, word, bodyOf, slotText, entryFor, emptyEntries, emptyImage}
+use Rattle.image.specs.Image.{imageBytes, rightLength, slots, entryBytes, entryOf, bodyBytes, slotStart, word, slotBody, slotText, entryFor, emptyEntries, emptyImage}
 use Rattle.image.specs.declared.Checked.{Checked}
 use Rattle.image.specs.Calls.{checkedOf, afterClear}
-use Rattle.image.specs.Claims.{Holds, ClearClaims}
+use Rattle.image.specs.Claims.{SlotHolds, ClearClaims}
 use Rattle.image.proofs.SlotLaws.{no-slot}
 use Rattle.image.proofs.WriteLaws.{length-entries}
 use Rattle.image.proofs.HeldLaws.{empty-good, no-text, holds}
@@ -28,15 +28,15 @@ unfolding part
 part-behind front ys rest a n e f = rw (drop-at front (ys ++ rest) a e) (take-at ys rest n f)
 
 -- the entry of each empty slot, whatever follows the entries
-entry-at : (n k : ℕ) (rest : List ℕ) → k < n → part (emptyEntries n ++ rest) (entryBytes * k) entryBytes ≡ entryFor (startOf k) 0
+entry-at : (n k : ℕ) (rest : List ℕ) → k < n → part (emptyEntries n ++ rest) (entryBytes * k) entryBytes ≡ entryFor (slotStart k) 0
 unfolding emptyEntries entryFor word
 entry-at zero k rest h = absurd (not-suc-le-zero h)
 entry-at (suc n) k rest h =
     rw
-    (append-assoc (emptyEntries n) (entryFor (startOf n) 0) rest)
+    (append-assoc (emptyEntries n) (entryFor (slotStart n) 0) rest)
     (⊎-elim
-    (λ (e : k ≡ n). rw e (part-behind (emptyEntries n) (entryFor (startOf n) 0) rest _ _ (length-entries n) refl))
-    (λ (l : k < n). entry-at n k (entryFor (startOf n) 0 ++ rest) l)
+    (λ (e : k ≡ n). rw e (part-behind (emptyEntries n) (entryFor (slotStart n) 0) rest _ _ (length-entries n) refl))
+    (λ (l : k < n). entry-at n k (entryFor (slotStart n) 0 ++ rest) l)
     (eq-or-lt-of-le (le-of-suc-le-suc h)))
 
 -- a part of zeros
@@ -60,15 +60,15 @@ length-empty : length emptyImage ≡ imageBytes
 unfolding emptyImage
 length-empty = length-padded imageBytes (emptyEntries slots) (omega (arith, length-entries slots))
 
-entry-empty : (k : ℕ) → k < slots → entryOf emptyImage k ≡ entryFor (startOf k) 0
+entry-empty : (k : ℕ) → k < slots → entryOf emptyImage k ≡ entryFor (slotStart k) 0
 unfolding entryOf emptyImage padded
 entry-empty k l = entry-at slots k (replicate (imageBytes - length (emptyEntries slots)) 0) l
 
-body-empty : (k : ℕ) → k < slots → bodyOf emptyImage k ≡ padded bodyBytes []
-unfolding bodyOf emptyImage
-body-empty k l = part-padded imageBytes (emptyEntries slots) (bodyBytes * k) (startOf k) bodyBytes (omega (arith, length-entries slots)) (omega arith)
+body-empty : (k : ℕ) → k < slots → slotBody emptyImage k ≡ padded bodyBytes []
+unfolding slotBody emptyImage
+body-empty k l = part-padded imageBytes (emptyEntries slots) (bodyBytes * k) (slotStart k) bodyBytes (omega (arith, length-entries slots)) (omega arith)
 
-pub holds-empty : (k : ℕ) → k < slots → Holds emptyImage k []
+pub holds-empty : (k : ℕ) → k < slots → SlotHolds emptyImage k []
 holds-empty k l = holds emptyImage k [] length-empty l (omega arith) (entry-empty k l) (body-empty k l)
 
 good-empty : checkedOf emptyImage ≡ Checked.Good

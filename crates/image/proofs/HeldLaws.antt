@@ -8,13 +8,13 @@ use lib.Dec.{leb}
 use lib.ListN.{length, drop, replicate}
 use lib.Seq.{drop-at}
 use borrow.Author.Tests.{leb-true}
-use Rattle.parts.specs.Parts.{padded}
+use Rattle.parts.specs.Parts.{padded, mostBytes}
 use Rattle.parts.proofs.Laws.{cases, take-padded}
 use Rattle.digits.specs.Operand.{operandMost}
 use Rattle.commands.specs.Reading.{readBy}
-use Rattle.lines.specs.Texts.{readingIn, readingBy, faultPlaces, fifteenth, storedPlaces, storedBy, storedJudged, passed, mostBytes, textGoodBy, textGood}
-use Rattle.image.specs.Image.{imageBytes, slots, entryOf, bodyBytes, startIn, lengthIn, startOf, word, wordAt, bodyOf, zeros, slotGood, slotText, entryFor}
-use Rattle.image.specs.Claims.{Holds}
+use Rattle.lines.specs.Texts.{readingIn, readingBy, faultPlaces, fifteenth, storedPlaces, storedBy, storedJudged, passed, textGoodBy, textGood}
+use Rattle.image.specs.Image.{imageBytes, slots, entryOf, bodyBytes, startIn, lengthIn, slotStart, word, wordAt, slotBody, allZeros, slotGood, slotText, entryFor}
+use Rattle.image.specs.Claims.{SlotHolds}
 use Rattle.image.proofs.SlotLaws.{and-left, good-rest, slot-judged, sound}
 
 -- ---- texts
@@ -62,23 +62,23 @@ length-read start n = omega arith
 
 -- ---- bodies
 
-pub zeros-zeros : (n : ℕ) → zeros (replicate n 0) ≡ true
-unfolding zeros
+pub zeros-zeros : (n : ℕ) → allZeros (replicate n 0) ≡ true
+unfolding allZeros
 zeros-zeros zero = refl
 zeros-zeros (suc n) = zeros-zeros n
 
-unused-zero : (n : ℕ) (text : List ℕ) → zeros (drop (length text) (padded n text)) ≡ true
+unused-zero : (n : ℕ) (text : List ℕ) → allZeros (drop (length text) (padded n text)) ≡ true
 unfolding padded
 unused-zero n text = rw (drop-at text (replicate (n - length text) 0) (length text) refl) (zeros-zeros (n - length text))
 
 -- ---- slots
 
 pub holds : (image : List ℕ) (k : ℕ) (text : List ℕ) → length image ≡ imageBytes → k < slots → length text ≤ bodyBytes
-    → entryOf image k ≡ entryFor (startOf k) (length text) → bodyOf image k ≡ padded bodyBytes text → Holds image k text
+    → entryOf image k ≡ entryFor (slotStart k) (length text) → slotBody image k ≡ padded bodyBytes text → SlotHolds image k text
 unfolding slotText
 holds image k text long slot fits e b =
-    let n = length-read (startOf k) (length text) in
-    let rest = good-rest operandMost (startOf k) (entryFor (startOf k) (length text)) (padded bodyBytes text) (start-read (startOf k) (length text)) (omega arith) in
+    let n = length-read (slotStart k) (length text) in
+    let rest = good-rest operandMost (slotStart k) (entryFor (slotStart k) (length text)) (padded bodyBytes text) (start-read (slotStart k) (length text)) (omega arith) in
     let good : slotGood image k ≡ textGood text =
     rw (slot-judged operandMost image k long slot, e, b, rest, n, take-padded bodyBytes text, unused-zero bodyBytes text) (and-true (textGood text)) in
     record { entry = e; body = b; good = good; text = λ t. rw (good ∙ t, e, b, n) (take-padded bodyBytes text) }

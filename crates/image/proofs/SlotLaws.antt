@@ -14,7 +14,7 @@ use borrow.Author.Tests.{eq-eqb, ne-eqb, le-leb, lt-leb, lt-ltb, le-ltb, leb-tru
 use Rattle.parts.specs.Parts.{part}
 use Rattle.digits.specs.Operand.{operandMost}
 use Rattle.lines.specs.Texts.{textGoodBy, textGood}
-use Rattle.image.specs.Image.{imageBytes, slots, entryBytes, bodyBytes, startIn, lengthIn, startOf, entryOf, bodyOf, zeros, goodAt, rightLength, hasSlot, slotBy, slotGood, slotsBy}
+use Rattle.image.specs.Image.{imageBytes, slots, entryBytes, bodyBytes, startIn, lengthIn, slotStart, entryOf, slotBody, allZeros, goodAt, rightLength, hasSlot, slotBy, slotGood, slotsBy}
 
 pub and-left : (a b : Bool) → a && b ≡ true → a ≡ true
 and-left true b h = refl
@@ -37,19 +37,19 @@ pub length-entry : (image : List ℕ) (k : ℕ) → length image ≡ imageBytes 
 unfolding entryOf
 length-entry image k h l = length-part image _ _ (omega arith)
 
-pub length-body : (image : List ℕ) (k : ℕ) → length image ≡ imageBytes → k < slots → length (bodyOf image k) ≡ bodyBytes
-unfolding bodyOf
+pub length-body : (image : List ℕ) (k : ℕ) → length image ≡ imageBytes → k < slots → length (slotBody image k) ≡ bodyBytes
+unfolding slotBody
 length-body image k h l = length-part image _ _ (omega arith)
 
 -- ---- "unused bytes are 0", in a loop that goes up
 
-module _ (s : List ℕ) (i : ℕ) (clean : Bool) (e : zeros s ≡ clean && zeros (drop i s)) where
-  pub zeros-more : i < length s → zeros s ≡ clean && eqb (getD s i 0) 0 && zeros (drop (i + 1) s)
-  unfolding zeros
-  zeros-more h = e ∙ rw (add-one, drop-cons s i 0) (sym (and-assoc clean (eqb (getD s i 0) 0) (zeros (drop (suc i) s))))
+module _ (s : List ℕ) (i : ℕ) (clean : Bool) (e : allZeros s ≡ clean && allZeros (drop i s)) where
+  pub zeros-more : i < length s → allZeros s ≡ clean && eqb (getD s i 0) 0 && allZeros (drop (i + 1) s)
+  unfolding allZeros
+  zeros-more h = e ∙ rw (add-one, drop-cons s i 0) (sym (and-assoc clean (eqb (getD s i 0) 0) (allZeros (drop (suc i) s))))
 
-  pub zeros-end : length s ≤ i → clean ≡ zeros s
-  unfolding zeros
+  pub zeros-end : length s ≤ i → clean ≡ allZeros s
+  unfolding allZeros
   zeros-end h = sym (e ∙ rw (drop-of-length-le s h) (and-true clean))
 
 -- ---- an entry and a body
@@ -65,7 +65,7 @@ module _ (most start : ℕ) (entry body : List ℕ) where
 
   -- with start and length right, what is left are the text and the unused bytes
   pub good-rest : startIn entry ≡ start → lengthIn entry ≤ bodyBytes
-      → goodAt most start entry body ≡ textGoodBy most (take (lengthIn entry) body) && zeros (drop (lengthIn entry) body)
+      → goodAt most start entry body ≡ textGoodBy most (take (lengthIn entry) body) && allZeros (drop (lengthIn entry) body)
   unfolding goodAt
   good-rest e h = rw (eq-eqb (startIn entry) start e, le-leb (lengthIn entry) bodyBytes h)
 
@@ -80,7 +80,7 @@ module _ (most : ℕ) (image : List ℕ) (k : ℕ) where
   unfolding slotBy
   no-slot h = rw (le-ltb k slots h, and-false (rightLength image))
 
-  pub slot-judged : length image ≡ imageBytes → k < slots → slotBy most image k ≡ goodAt most (startOf k) (entryOf image k) (bodyOf image k)
+  pub slot-judged : length image ≡ imageBytes → k < slots → slotBy most image k ≡ goodAt most (slotStart k) (entryOf image k) (slotBody image k)
   unfolding slotBy
   slot-judged h l = rw (eq-eqb (length image) imageBytes h, lt-ltb k slots l)
 
@@ -88,10 +88,10 @@ module _ (most : ℕ) (image : List ℕ) (k : ℕ) where
 pub record Sound (image : List ℕ) (k : ℕ) : Type 0 where
   pub long : length image ≡ imageBytes
   pub slot : k < slots
-  pub start : startIn (entryOf image k) ≡ startOf k
+  pub start : startIn (entryOf image k) ≡ slotStart k
   pub fits : lengthIn (entryOf image k) ≤ bodyBytes
-  pub passes : textGood (take (lengthIn (entryOf image k)) (bodyOf image k)) ≡ true
-  pub unused : zeros (drop (lengthIn (entryOf image k)) (bodyOf image k)) ≡ true
+  pub passes : textGood (take (lengthIn (entryOf image k)) (slotBody image k)) ≡ true
+  pub unused : allZeros (drop (lengthIn (entryOf image k)) (slotBody image k)) ≡ true
 
 all-four : (a b c d : Bool) → a && b && c && d ≡ true → (a ≡ true) × (b ≡ true) × (c ≡ true) × (d ≡ true)
 all-four a b c d h =
@@ -103,15 +103,15 @@ pub sound : (image : List ℕ) (k : ℕ) → slotGood image k ≡ true → Sound
 unfolding slotBy goodAt
 sound image k h =
     let entry = entryOf image k in
-    let body = bodyOf image k in
+    let body = slotBody image k in
     let n = lengthIn entry in
-    let has = and-left (hasSlot image k) (goodAt operandMost (startOf k) entry body) h in
+    let has = and-left (hasSlot image k) (goodAt operandMost (slotStart k) entry body) h in
     let good = all-four
-    (eqb (startIn entry) (startOf k))
+    (eqb (startIn entry) (slotStart k))
     (leb n bodyBytes)
     (textGood (take n body))
-    (zeros (drop n body))
-    (and-right (hasSlot image k) (goodAt operandMost (startOf k) entry body) h) in
+    (allZeros (drop n body))
+    (and-right (hasSlot image k) (goodAt operandMost (slotStart k) entry body) h) in
     record {
       long = eqb-true _ _ (and-left (rightLength image) (ltb k slots) has);
       slot = ltb-true k slots (and-right (rightLength image) (ltb k slots) has);

@@ -11,11 +11,11 @@ use borrow.Author.Tests.{eq-eqb, eqb-true}
 use Rattle.parts.specs.Parts.{part, put, padded}
 use Rattle.parts.proofs.Laws.{length-put, part-put, part-put-below, part-put-above, length-padded}
 use Rattle.lines.specs.Texts.{textGood}
-use Rattle.image.specs.Image.{imageBytes, rightLength, slots, entryBytes, entryOf, bodyBytes, startOf, word, bodyOf, slotBy, slotGood, slotText, entryFor, withEntry, withBody, withText}
+use Rattle.image.specs.Image.{imageBytes, rightLength, slots, entryBytes, entryOf, bodyBytes, slotStart, word, slotBody, slotBy, slotGood, slotText, entryFor, withEntry, withBody, withText}
 use Rattle.image.specs.declared.Checked.{Checked}
 use Rattle.image.specs.declared.Stored.{Stored}
 use Rattle.image.specs.Calls.{checkedOf, storedOf, afterStore}
-use Rattle.image.specs.Claims.{Kept, Holds, StoreClaims}
+use Rattle.image.specs.Claims.{SlotKept, SlotHolds, StoreClaims}
 use Rattle.image.proofs.HeldLaws.{empty-good, good-fits, holds}
 use Rattle.image.proofs.CallLaws.{good-means, good-when, store-cases, done-when, done-means, after-done}
 
@@ -38,23 +38,23 @@ part-apart xs a ys b n h side = ⊎-elim (part-put-below xs a ys h b n) (part-pu
 module _ (image : List ℕ) (k : ℕ) (text : List ℕ) (long : length image ≡ imageBytes) (slot : k < slots) (fits : length text ≤ bodyBytes) where
   length-mid : length (withEntry image k (length text)) ≡ imageBytes
   unfolding withEntry
-  length-mid = length-put image _ _ (omega (arith, length-entry-for (startOf k) (length text))) ∙ long
+  length-mid = length-put image _ _ (omega (arith, length-entry-for (slotStart k) (length text))) ∙ long
 
   length-with : length (withText image k text) ≡ imageBytes
   unfolding withText withBody
   length-with = length-put _ _ _ (omega (arith, length-padded bodyBytes text fits, length-mid)) ∙ length-mid
 
-  entry-with : entryOf (withText image k text) k ≡ entryFor (startOf k) (length text)
+  entry-with : entryOf (withText image k text) k ≡ entryFor (slotStart k) (length text)
   unfolding withText withBody withEntry entryOf
   entry-with =
       part-put-below _ _ _ (omega (arith, length-mid)) _ _ (omega arith)
-      ∙ part-put image _ _ (omega arith) _ (length-entry-for (startOf k) (length text))
+      ∙ part-put image _ _ (omega arith) _ (length-entry-for (slotStart k) (length text))
 
-  body-with : bodyOf (withText image k text) k ≡ padded bodyBytes text
-  unfolding withText withBody bodyOf
+  body-with : slotBody (withText image k text) k ≡ padded bodyBytes text
+  unfolding withText withBody slotBody
   body-with = part-put _ _ _ (omega (arith, length-mid)) _ (length-padded bodyBytes text fits)
 
-  pub holds-with : Holds (withText image k text) k text
+  pub holds-with : SlotHolds (withText image k text) k text
   holds-with = holds (withText image k text) k text length-with slot fits entry-with body-with
 
   -- another slot lies elsewhere
@@ -62,22 +62,22 @@ module _ (image : List ℕ) (k : ℕ) (text : List ℕ) (long : length image ≡
     entry-kept : entryOf (withText image k text) j ≡ entryOf image j
     unfolding withText withBody withEntry entryOf
     entry-kept =
-        let n = length-entry-for (startOf k) (length text) in
+        let n = length-entry-for (slotStart k) (length text) in
         part-apart _ _ _ _ _ (omega (arith, length-mid)) (inl (omega arith))
         ∙ part-apart image _ _ _ _ (omega arith) (⊎-elim (λ (l : j < k). inl (omega arith)) (λ (l : k < j). inr (omega arith)) (apart j k ne))
 
-    body-kept : bodyOf (withText image k text) j ≡ bodyOf image j
-    unfolding withText withBody withEntry bodyOf
+    body-kept : slotBody (withText image k text) j ≡ slotBody image j
+    unfolding withText withBody withEntry slotBody
     body-kept =
         let n = length-padded bodyBytes text fits in
         part-apart _ _ _ _ _ (omega (arith, length-mid)) (⊎-elim (λ (l : j < k). inl (omega arith)) (λ (l : k < j). inr (omega arith)) (apart j k ne))
-        ∙ part-apart image _ _ _ _ (omega arith) (inr (omega (arith, length-entry-for (startOf k) (length text))))
+        ∙ part-apart image _ _ _ _ (omega arith) (inr (omega (arith, length-entry-for (slotStart k) (length text))))
 
     good-kept : slotGood (withText image k text) j ≡ slotGood image j
     unfolding slotBy
     good-kept = rw (length-with, long, entry-kept, body-kept)
 
-    pub kept-with : Kept j image (withText image k text)
+    pub kept-with : SlotKept j image (withText image k text)
     unfolding slotText
     kept-with = record { entry = entry-kept; body = body-kept; good = good-kept; text = rw (good-kept, entry-kept, body-kept) }
 
@@ -88,15 +88,15 @@ module _ (image : List ℕ) (k : ℕ) (text : List ℕ) where
   store-length =
       store-cases (λ (x : List ℕ). length x ≡ length image) image k text refl (λ long slot fits. length-with image k text long slot fits ∙ sym long)
 
-  pub store-holds : storedOf image k text ≡ Stored.Done → Holds (afterStore image k text) k text
+  pub store-holds : storedOf image k text ≡ Stored.Done → SlotHolds (afterStore image k text) k text
   store-holds e =
       let f = done-means image k text e in
       rw (after-done image k text e) (holds-with image k text (f .long) (f .slot) (f .fits))
 
-  pub store-elsewhere : (j : ℕ) → j < slots → (j ≡ k → ⊥) → Kept j image (afterStore image k text)
+  pub store-elsewhere : (j : ℕ) → j < slots → (j ≡ k → ⊥) → SlotKept j image (afterStore image k text)
   store-elsewhere j other ne =
       store-cases
-      (λ (x : List ℕ). Kept j image x)
+      (λ (x : List ℕ). SlotKept j image x)
       image
       k
       text

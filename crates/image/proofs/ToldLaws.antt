@@ -10,19 +10,19 @@ use lib.ListN.{length, getD, take, drop, replicate, length-take, length-drop, ta
 use lib.Seq.{ext-getD, getD-take, getD-drop}
 use borrow.Author.Tests.{eqb-true}
 use Rattle.parts.specs.Parts.{part, padded}
-use Rattle.image.specs.Image.{imageBytes, slots, entryBytes, entryOf, bodyBytes, byteValues, contentsBytes, startIn, lengthIn, startOf, word, wordAt, bodyOf, zeros, slotGood, slotText, entryFor}
+use Rattle.image.specs.Image.{imageBytes, slots, entryBytes, entryOf, bodyBytes, byteValues, contentsBytes, startIn, lengthIn, slotStart, word, wordAt, slotBody, allZeros, slotGood, slotText, entryFor}
 use Rattle.image.specs.declared.Checked.{Checked}
 use Rattle.image.specs.Calls.{checkedOf}
 use Rattle.image.specs.Claims.{Bytes, SameTexts}
 use Rattle.image.proofs.SlotLaws.{and-left, and-right, length-entry, length-body, sound}
 use Rattle.image.proofs.CallLaws.{good-means}
 
-zeros-are : (s : List ℕ) → zeros s ≡ true → s ≡ replicate (length s) 0
-unfolding zeros
+zeros-are : (s : List ℕ) → allZeros s ≡ true → s ≡ replicate (length s) 0
+unfolding allZeros
 zeros-are [] h = refl
 zeros-are (b ∷ bs) h =
-    let e : b ≡ 0 = eqb-true b 0 (and-left (eqb b 0) (zeros bs) h) in
-    rw (e, ← zeros-are bs (and-right (eqb b 0) (zeros bs) h))
+    let e : b ≡ 0 = eqb-true b 0 (and-left (eqb b 0) (allZeros bs) h) in
+    rw (e, ← zeros-are bs (and-right (eqb b 0) (allZeros bs) h))
 
 getD-part : (xs : List ℕ) (a n i : ℕ) → i < n → getD (part xs a n) i 0 ≡ getD xs (a + i) 0
 unfolding part
@@ -43,7 +43,7 @@ entry-told e start n long small s l = ext-getD 0 e (entryFor start n) long go
 
 -- a good slot of an image of bytes
 module _ (image : List ℕ) (k : ℕ) (small : Bytes image) (good : slotGood image k ≡ true) where
-  text-is : slotText image k ≡ take (lengthIn (entryOf image k)) (bodyOf image k)
+  text-is : slotText image k ≡ take (lengthIn (entryOf image k)) (slotBody image k)
   unfolding slotText
   text-is = rw good
 
@@ -52,25 +52,25 @@ module _ (image : List ℕ) (k : ℕ) (small : Bytes image) (good : slotGood ima
       let g = sound image k good in
       rw text-is (simp length-take (omega (arith, length-body image k (g .long) (g .slot), g .fits)))
 
-  entry-is : entryOf image k ≡ entryFor (startOf k) (length (slotText image k))
+  entry-is : entryOf image k ≡ entryFor (slotStart k) (length (slotText image k))
   unfolding entryOf
   entry-is =
       let g = sound image k good in
       entry-told
       (entryOf image k)
-      (startOf k)
+      (slotStart k)
       (length (slotText image k))
       (length-entry image k (g .long) (g .slot))
       (λ i h. rw (getD-part image (entryBytes * k) entryBytes i h) (small (entryBytes * k + i)))
       (g .start)
       length-is
 
-  body-is : bodyOf image k ≡ padded bodyBytes (slotText image k)
+  body-is : slotBody image k ≡ padded bodyBytes (slotText image k)
   unfolding padded
   body-is =
       let g = sound image k good in
       let n = lengthIn (entryOf image k) in
-      let body = bodyOf image k in
+      let body = slotBody image k in
       let left : length (drop n body) ≡ bodyBytes - length (slotText image k) =
       simp length-drop (omega (arith, length-body image k (g .long) (g .slot), length-is)) in
       sym (take-append-drop n body)
@@ -79,8 +79,8 @@ module _ (image : List ℕ) (k : ℕ) (small : Bytes image) (good : slotGood ima
 
 -- entries and bodies are all there is
 all-there : (a b : List ℕ) → length a ≡ imageBytes → length b ≡ imageBytes
-    → ((k : ℕ) → k < slots → entryOf a k ≡ entryOf b k) → ((k : ℕ) → k < slots → bodyOf a k ≡ bodyOf b k) → a ≡ b
-unfolding entryOf bodyOf
+    → ((k : ℕ) → k < slots → entryOf a k ≡ entryOf b k) → ((k : ℕ) → k < slots → slotBody a k ≡ slotBody b k) → a ≡ b
+unfolding entryOf slotBody
 all-there a b la lb entries bodies = ext-getD 0 a b (la ∙ sym lb) (λ i h. go i (omega arith) (decLt i contentsBytes))
   where
     at : (s n i j : ℕ) → j < n → s + j ≡ i → part a s n ≡ part b s n → getD a i 0 ≡ getD b i 0
@@ -93,7 +93,7 @@ all-there a b la lb entries bodies = ext-getD 0 a b (la ∙ sym lb) (λ i h. go 
         at (entryBytes * k) entryBytes i (i % entryBytes) (omega arith) (omega arith) (entries k (omega arith))
     go i h (no m) =
         let k = (i - contentsBytes) / bodyBytes in
-        at (startOf k) bodyBytes i ((i - contentsBytes) % bodyBytes) (omega arith) (omega arith) (bodies k (omega arith))
+        at (slotStart k) bodyBytes i ((i - contentsBytes) % bodyBytes) (omega arith) (omega arith) (bodies k (omega arith))
 
 pub told-by-texts : (a b : List ℕ) → Bytes a → Bytes b → checkedOf a ≡ Checked.Good → checkedOf b ≡ Checked.Good → SameTexts a b → a ≡ b
 told-by-texts a b sa sb ga gb same =

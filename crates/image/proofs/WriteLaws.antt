@@ -8,28 +8,28 @@ use lib.ListN.{length, replicate, length-append, length-replicate}
 use lib.Seq.{drop-length}
 use Rattle.parts.specs.Parts.{put, putIn, padded}
 use Rattle.parts.proofs.Laws.{length-put, put-more, put-front, put-in-room}
-use Rattle.image.specs.Image.{imageBytes, slots, entryBytes, bodyBytes, byteValues, contentsBytes, word, startOf, entryFor, withEntry, withBody, emptyEntries, emptyImage}
+use Rattle.image.specs.Image.{imageBytes, slots, entryBytes, bodyBytes, byteValues, contentsBytes, word, slotStart, entryFor, withEntry, withBody, emptyEntries, emptyImage}
 
 module _ (image : List ℕ) (k : ℕ) (long : length image ≡ imageBytes) (slot : k < slots) where
   -- an entry of four bytes, low bytes first
   pub entry-put : (n : ℕ)
-      → putIn image (entryBytes * k) (startOf k % byteValues ∷ startOf k / byteValues ∷ n % byteValues ∷ n / byteValues ∷ []) ≡ withEntry image k n
+      → putIn image (entryBytes * k) (slotStart k % byteValues ∷ slotStart k / byteValues ∷ n % byteValues ∷ n / byteValues ∷ []) ≡ withEntry image k n
   unfolding withEntry entryFor word
   entry-put n = put-in-room image (entryBytes * k) _ (omega arith)
 
   -- a body: the text, then the zeros
   pub body-put : (text : List ℕ) → length text ≤ bodyBytes
-      → putIn (putIn image (startOf k) text) (startOf k + length text) (replicate (bodyBytes - length text) 0) ≡ withBody image k text
+      → putIn (putIn image (slotStart k) text) (slotStart k + length text) (replicate (bodyBytes - length text) 0) ≡ withBody image k text
   unfolding withBody padded
   body-put text fits =
       let rest = replicate {A = ℕ} (bodyBytes - length text) 0 in
-      ap (λ (l : List ℕ). putIn l (startOf k + length text) rest) (put-in-room image (startOf k) text (omega arith))
+      ap (λ (l : List ℕ). putIn l (slotStart k + length text) rest) (put-in-room image (slotStart k) text (omega arith))
       ∙ put-in-room
-      (put image (startOf k) text)
-      (startOf k + length text)
+      (put image (slotStart k) text)
+      (slotStart k + length text)
       rest
-      (omega (arith, length-put image (startOf k) text (omega arith), length-replicate {A = ℕ} (bodyBytes - length text) 0))
-      ∙ put-more image (startOf k) text (omega arith) (startOf k + length text) rest refl
+      (omega (arith, length-put image (slotStart k) text (omega arith), length-replicate {A = ℕ} (bodyBytes - length text) 0))
+      ∙ put-more image (slotStart k) text (omega arith) (slotStart k + length text) rest refl
 
 pub length-entries : (k : ℕ) → length (emptyEntries k) ≡ entryBytes * k
 unfolding emptyEntries entryFor word

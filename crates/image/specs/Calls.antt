@@ -1,12 +1,13 @@
 -- What the public calls answer and leave. 01, "Image of the programs" and "What comes back". Assumes nothing.
 use Prim.Native.Nat.{ℕ}
+use Prim.Native.String.{String}
 use mathlib.Core.Path.{_≡_}
 use mathlib.Core.List.{List}
 use mathlib.Core.Bool.{Bool, cond}
 use lib.ListN.{length}
 use lib.Dec.{ltb, leb}
 use Rattle.digits.specs.Operand.{operandMost}
-use Rattle.lines.specs.Texts.{mostBytes}
+use Rattle.parts.specs.Parts.{mostBytes}
 use Rattle.image.specs.Image.{rightLength, slots, bodyBytes, slotsBy, withText, emptyImage}
 use Rattle.image.specs.declared.Checked.{Checked}
 use Rattle.image.specs.declared.Stored.{Stored}
@@ -28,6 +29,12 @@ checkedNumber Checked.Good = 0
 checkedNumber Checked.WrongLength = 1
 checkedNumber Checked.Bad = 2
 
+-- and its name: "image not 4,160 bytes, then bad image"
+abbrev pub checkedName : Checked → String
+checkedName Checked.Good = "good"
+checkedName Checked.WrongLength = "image not 4,160 bytes"
+checkedName Checked.Bad = "bad image"
+
 -- what a store answers: "image not 4,160 bytes", a slot not "0 to 15", a text too long for its body, or done
 unfoldable pub storedOf : List ℕ → ℕ → List ℕ → Stored
 storedOf image slot text =
@@ -37,14 +44,21 @@ storedOf image slot text =
     Stored.WrongLength
 
 -- what each answer leaves: "`s` rewrites one entry and one body", a refusal nothing
-abbrev pub leftBy : Stored → List ℕ → ℕ → List ℕ → List ℕ
-leftBy Stored.Done image slot text = withText image slot text
-leftBy Stored.WrongLength image slot text = image
-leftBy Stored.NoSlot image slot text = image
-leftBy Stored.TooLong image slot text = image
+abbrev pub storeLeaves : Stored → List ℕ → ℕ → List ℕ → List ℕ
+storeLeaves Stored.Done image slot text = withText image slot text
+storeLeaves Stored.WrongLength image slot text = image
+storeLeaves Stored.NoSlot image slot text = image
+storeLeaves Stored.TooLong image slot text = image
+
+-- and its name
+abbrev pub storedName : Stored → String
+storedName Stored.Done = "stored"
+storedName Stored.WrongLength = "image not 4,160 bytes"
+storedName Stored.NoSlot = "slot not 0 to 15"
+storedName Stored.TooLong = "text over 256 bytes"
 
 unfoldable pub afterStore : List ℕ → ℕ → List ℕ → List ℕ
-afterStore image slot text = leftBy (storedOf image slot text) image slot text
+afterStore image slot text = storeLeaves (storedOf image slot text) image slot text
 
 -- the answer and the image after a store
 pub record StoredIs (image : List ℕ) (slot : ℕ) (text : List ℕ) (answer : Stored) (after : List ℕ) : Type 0 where

@@ -5,26 +5,26 @@ use mathlib.Core.Path.{_≡_}
 use mathlib.Core.List.{List, []}
 use mathlib.Core.Bool.{Bool, true, _&&_}
 use lib.ListN.{length, getD, take}
-use Rattle.parts.specs.Parts.{padded}
+use Rattle.parts.specs.Parts.{padded, mostBytes}
 use Rattle.digits.specs.Operand.{operandMost, fewDigits}
-use Rattle.lines.specs.Texts.{mostBytes, textGood}
-use Rattle.image.specs.Image.{imageBytes, rightLength, slots, entryBytes, bodyBytes, contentsBytes, byteValues, lengthIn, startOf}
-use Rattle.image.specs.Image.{entryOf, bodyOf, slotBy, slotGood, slotText, entryFor}
+use Rattle.lines.specs.Texts.{textGood}
+use Rattle.image.specs.Image.{imageBytes, rightLength, slots, entryBytes, bodyBytes, contentsBytes, byteValues, lengthIn, slotStart}
+use Rattle.image.specs.Image.{entryOf, slotBody, slotBy, slotGood, slotText, entryFor}
 use Rattle.image.specs.declared.Checked.{Checked}
 use Rattle.image.specs.declared.Stored.{Stored}
 use Rattle.image.specs.Calls.{checkedOf, olderOf, storedOf, afterStore, afterClear}
 
 -- slot k is as it was
-pub record Kept (k : ℕ) (before after : List ℕ) : Type 0 where
+pub record SlotKept (k : ℕ) (before after : List ℕ) : Type 0 where
   pub entry : entryOf after k ≡ entryOf before k
-  pub body : bodyOf after k ≡ bodyOf before k
+  pub body : slotBody after k ≡ slotBody before k
   pub good : slotGood after k ≡ slotGood before k
   pub text : slotText after k ≡ slotText before k
 
 -- slot k has a text's entry and body; it is good exactly when the text passes, and then that text is read there
-pub record Holds (image : List ℕ) (k : ℕ) (held : List ℕ) : Type 0 where
-  pub entry : entryOf image k ≡ entryFor (startOf k) (length held)
-  pub body : bodyOf image k ≡ padded bodyBytes held
+pub record SlotHolds (image : List ℕ) (k : ℕ) (held : List ℕ) : Type 0 where
+  pub entry : entryOf image k ≡ entryFor (slotStart k) (length held)
+  pub body : slotBody image k ≡ padded bodyBytes held
   pub good : slotGood image k ≡ textGood held
   pub text : textGood held ≡ true → slotText image k ≡ held
 
@@ -32,8 +32,8 @@ abbrev pub EverySlotGood : List ℕ → Type 0
 EverySlotGood image = (k : ℕ) → k < slots → slotGood image k ≡ true
 
 -- the bytes that slot k's entry says are its text, good or not; whether it is good but for operands of more than ten digits
-abbrev pub textIn : List ℕ → ℕ → List ℕ
-textIn image k = take (lengthIn (entryOf image k)) (bodyOf image k)
+abbrev pub entryText : List ℕ → ℕ → List ℕ
+entryText image k = take (lengthIn (entryOf image k)) (slotBody image k)
 
 abbrev pub slotOlder : List ℕ → ℕ → Bool
 slotOlder image k = slotBy mostBytes image k
@@ -54,9 +54,9 @@ pub record StoreClaims (image : List ℕ) (k : ℕ) (text : List ℕ) : Type 0 w
   -- a text that passes is stored wherever there is a slot
   pub done : rightLength image ≡ true → k < slots → textGood text ≡ true → storedOf image k text ≡ Stored.Done
   -- what was stored is there
-  pub holds : storedOf image k text ≡ Stored.Done → Holds (afterStore image k text) k text
+  pub holds : storedOf image k text ≡ Stored.Done → SlotHolds (afterStore image k text) k text
   -- "`s` rewrites one entry and one body": every other slot is as it was, good or not
-  pub elsewhere : (j : ℕ) → j < slots → (j ≡ k → ⊥) → Kept j image (afterStore image k text)
+  pub elsewhere : (j : ℕ) → j < slots → (j ≡ k → ⊥) → SlotKept j image (afterStore image k text)
   -- a text that passes leaves a good image good
   pub stays-good : checkedOf image ≡ Checked.Good → textGood text ≡ true → checkedOf (afterStore image k text) ≡ Checked.Good
 
@@ -69,12 +69,12 @@ pub record ClearClaims (image : List ℕ) : Type 0 where
 pub record ImageClaims : Type 0 where
   -- "16 entries .. then 16 bodies of 256 bytes": 64 bytes, and 4,160 in all
   pub contents : entryBytes * slots ≡ contentsBytes
-  pub whole : startOf slots ≡ imageBytes
+  pub whole : slotStart slots ≡ imageBytes
   -- "the image is good when every ..": its length is right and all 16 slots are good, and then only
   pub good-means : (image : List ℕ) → checkedOf image ≡ Checked.Good → (length image ≡ imageBytes) × EverySlotGood image
   pub good-when : (image : List ℕ) → length image ≡ imageBytes → EverySlotGood image → checkedOf image ≡ Checked.Good
   -- 02, E9: a slot is good when it was so before and its text has no run of more than ten digits; a good image was good before
-  pub slot-now : (image : List ℕ) (k : ℕ) → slotGood image k ≡ slotOlder image k && fewDigits operandMost (textIn image k)
+  pub slot-now : (image : List ℕ) (k : ℕ) → slotGood image k ≡ slotOlder image k && fewDigits operandMost (entryText image k)
   pub good-before : (image : List ℕ) → checkedOf image ≡ Checked.Good → olderOf image ≡ Checked.Good
   pub older-means : (image : List ℕ) → olderOf image ≡ Checked.Good → (length image ≡ imageBytes) × EverySlotOlder image
   -- every text that is read from an image passes the check for stored text, and fits a body

@@ -5,9 +5,9 @@ use mathlib.Core.List.{List, [], _∷_, _++_}
 use mathlib.Core.Bool.{Bool, true, cond, _&&_}
 use lib.ListN.{length, getD, take, drop}
 use lib.Dec.{ltb, leb, eqb}
-use Rattle.parts.specs.Parts.{part, put, padded}
+use Rattle.parts.specs.Parts.{part, put, padded, mostBytes}
 use Rattle.digits.specs.Operand.{operandMost}
-use Rattle.lines.specs.Texts.{mostBytes, textGoodBy}
+use Rattle.lines.specs.Texts.{textGoodBy}
 
 -- "4,160 bytes"
 abbrev pub imageBytes : ℕ
@@ -57,17 +57,17 @@ bodyBytes = 256
 abbrev pub contentsBytes : ℕ
 contentsBytes = 64
 
-abbrev pub startOf : ℕ → ℕ
-startOf k = contentsBytes + bodyBytes * k
+abbrev pub slotStart : ℕ → ℕ
+slotStart k = contentsBytes + bodyBytes * k
 
 -- the body of slot k
-unfoldable pub bodyOf : List ℕ → ℕ → List ℕ
-bodyOf image k = part image (startOf k) bodyBytes
+unfoldable pub slotBody : List ℕ → ℕ → List ℕ
+slotBody image k = part image (slotStart k) bodyBytes
 
 -- "unused bytes are 0"
-unfoldable pub zeros : List ℕ → Bool
-zeros [] = true
-zeros (b ∷ bs) = eqb b 0 && zeros bs
+unfoldable pub allZeros : List ℕ → Bool
+allZeros [] = true
+allZeros (b ∷ bs) = eqb b 0 && allZeros bs
 
 -- "good when every start is that, every length at most 256, every body passes the check for stored text, and
 -- unused bytes are 0": for the entry and the body of one slot, which is to start so, with operands of so many digits at most
@@ -76,7 +76,7 @@ goodAt most start entry body =
     eqb (startIn entry) start
     && leb (lengthIn entry) bodyBytes
     && textGoodBy most (take (lengthIn entry) body)
-    && zeros (drop (lengthIn entry) body)
+    && allZeros (drop (lengthIn entry) body)
 
 -- whether the image has a slot k
 abbrev pub hasSlot : List ℕ → ℕ → Bool
@@ -84,7 +84,7 @@ hasSlot image k = rightLength image && ltb k slots
 
 -- the same of slot k, its entry and body, and no other
 unfoldable pub slotBy : ℕ → List ℕ → ℕ → Bool
-slotBy most image k = hasSlot image k && goodAt most (startOf k) (entryOf image k) (bodyOf image k)
+slotBy most image k = hasSlot image k && goodAt most (slotStart k) (entryOf image k) (slotBody image k)
 
 -- 02, E9: "a program stored earlier with such an operand counts as bad"
 abbrev pub slotGood : List ℕ → ℕ → Bool
@@ -104,7 +104,7 @@ slotsOlder image n = slotsBy mostBytes image n
 
 -- the text of slot k; none where the slot is not good
 unfoldable pub slotText : List ℕ → ℕ → List ℕ
-slotText image k = cond (slotGood image k) (take (lengthIn (entryOf image k)) (bodyOf image k)) []
+slotText image k = cond (slotGood image k) (take (lengthIn (entryOf image k)) (slotBody image k)) []
 
 -- an entry of a start and a length
 unfoldable pub entryFor : ℕ → ℕ → List ℕ
@@ -112,10 +112,10 @@ entryFor start n = word start ++ word n
 
 -- "`s` rewrites one entry and one body"
 unfoldable pub withEntry : List ℕ → ℕ → ℕ → List ℕ
-withEntry image k n = put image (entryBytes * k) (entryFor (startOf k) n)
+withEntry image k n = put image (entryBytes * k) (entryFor (slotStart k) n)
 
 unfoldable pub withBody : List ℕ → ℕ → List ℕ → List ℕ
-withBody image k text = put image (startOf k) (padded bodyBytes text)
+withBody image k text = put image (slotStart k) (padded bodyBytes text)
 
 unfoldable pub withText : List ℕ → ℕ → List ℕ → List ℕ
 withText image k text = withBody (withEntry image k (length text)) k text
@@ -123,7 +123,7 @@ withText image k text = withBody (withEntry image k (length text)) k text
 -- the entries of slots 0 to k - 1, all empty: each start is that, "also when empty"
 unfoldable pub emptyEntries : ℕ → List ℕ
 emptyEntries zero = []
-emptyEntries (suc k) = emptyEntries k ++ entryFor (startOf k) 0
+emptyEntries (suc k) = emptyEntries k ++ entryFor (slotStart k) 0
 
 -- "the good image with all slots empty"
 unfoldable pub emptyImage : List ℕ

@@ -4,8 +4,8 @@ ghost use Prim.Native.Nat.{_+_, _*_, _<_, _≤_};
 ghost use mathlib.Core.Bool.{_&&_};
 ghost use lib.ListN.{length};
 ghost use lib.Dec.{eqb};
-ghost use Rattle.image.specs.Image.{imageBytes, rightLength, slots, entryBytes, bodyBytes, wordAt, startOf, entryOf, bodyOf};
-ghost use Rattle.image.specs.Image.{zeros, goodAt, slotBy, slotGood, slotText, withEntry, withBody};
+ghost use Rattle.image.specs.Image.{imageBytes, rightLength, slots, entryBytes, bodyBytes, wordAt, slotStart, entryOf, slotBody};
+ghost use Rattle.image.specs.Image.{allZeros, goodAt, slotBy, slotGood, slotText, withEntry, withBody};
 ghost use Rattle.image.specs.Calls.{checkedBy, checkedOf, olderOf, StoredIs, ClearedIs};
 ghost use Rattle.image.specs.Claims.{ImageClaims};
 
@@ -152,7 +152,7 @@ pub fn clear(image: &mut [u8]) -> bool
 // Where the body of a slot starts.
 fn start_of(slot: u32) -> usize
     requires { ⌜ slot < slots ⌝ }
-    ensures { λ r. ⌜ r ≡ startOf slot ⌝ }
+    ensures { λ r. ⌜ r ≡ slotStart slot ⌝ }
 {
     CONTENTS_BYTES + BODY_BYTES * (slot as usize)
 }
@@ -177,7 +177,7 @@ fn entry_of(image: &[u8], slot: u32) -> &[u8]
 // The body of a slot.
 fn body_of(image: &[u8], slot: u32) -> &[u8]
     requires { ⌜ (length (now image) ≡ imageBytes) × (slot < slots) ⌝ }
-    ensures { λ r. ⌜ now r ≡ bodyOf (now (image .entry)) slot ⌝ }
+    ensures { λ r. ⌜ now r ≡ slotBody (now (image .entry)) slot ⌝ }
 {
     let at = start_of(slot);
     &image[at..at + BODY_BYTES]
@@ -213,7 +213,7 @@ fn good_at(start: usize, entry: &[u8], body: &[u8], most: usize) -> bool
 
 // Whether all bytes are 0: looked at without a stop, many at a time.
 fn all_zero(bytes: &[u8]) -> bool
-    ensures { λ r. ⌜ r ≡ zeros (now (bytes .entry)) ⌝ }
+    ensures { λ r. ⌜ r ≡ allZeros (now (bytes .entry)) ⌝ }
 {
     let mut clean = true;
     for i in 0..bytes.len() {

@@ -1,17 +1,16 @@
 -- What no deed takes away, no call takes away: a call is refused and changes nothing, or does one deed. Assumes nothing.
 use Prim.Native.Nat.{ℕ, _≤_}
 use mathlib.Core.Path.{_≡_, refl}
-use mathlib.Core.List.{List, []}
+use mathlib.Core.List.{List}
 use mathlib.Core.Bool.{Bool, true, false}
 use native.Mathlib.Omega.{arith}
 use lib.Dec.{ltb}
 use lib.ListN.{length, take}
 use lib.Seq.{take-length}
 use borrow.Author.Tests.{ltb-false}
-use Rattle.parts.specs.Parts.{paddedText}
+use Rattle.parts.specs.Parts.{paddedText, mostBytes}
 use Rattle.parts.proofs.Laws.{cases}
 use Rattle.answers.specs.Packet.{packetBytes}
-use Rattle.lines.specs.Texts.{mostBytes}
 use Rattle.lines.specs.Loops.{Checked}
 use Rattle.lines.proofs.BodyLaws.{no-bytes}
 use Rattle.lines.proofs.TakenLaws.{text-checked}
@@ -23,7 +22,7 @@ use Rattle.drive.specs.Unit.{Drive}
 use Rattle.drive.specs.Calls.{begunWith, begunOn, freshUnit, receivedBy, bodyBy, Feeding, feedOf, mostSample, Turning, turnOf}
 use Rattle.obeying.specs.Deeds.{loads}
 use Rattle.drive.proofs.FeedLaws.{frame-does}
-use Rattle.keeping.specs.Kept.{Kept, Holds, CallsKeep}
+use Rattle.keeping.specs.Kept.{Kept, HoldsOf, CallsKeep}
 use Rattle.keeping.proofs.TurnLaws.{step-does}
 
 idle : freshCore .running ≡ false
@@ -38,7 +37,7 @@ module _ {P : List ℕ → Core → Type 0} (k : Kept P) where
       (λ q. rw (take-length t) at (k .obeys {body = t} (k .fresh) (loads true (length t) idle (record { inside = omega arith; short = l; checked = rw (take-length t) h }))))
       (λ q. rw (no-bytes t (omega (arith, ltb-false 0 (length t) q))) (k .fresh))
 
-  starts : (number : ℕ) (image body : List ℕ) → Holds P (freshUnit number image body)
+  starts : (number : ℕ) (image body : List ℕ) → HoldsOf P (freshUnit number image body)
   unfolding freshUnit
   starts number image body = go (slotGood image 0) refl
     where
@@ -46,7 +45,7 @@ module _ {P : List ℕ → Core → Type 0} (k : Kept P) where
       go true e = begun-keeps (slotText image 0) (text-checked (slotText image 0) (text-passes image 0)) (text-fits image 0)
       go false e = rw (no-text image 0 e) (k .held)
 
-  feeds : (u : Drive) (bytes image buffer : List ℕ) → Holds P u → Holds P (feedOf u bytes image buffer .unit)
+  feeds : (u : Drive) (bytes image buffer : List ℕ) → HoldsOf P u → HoldsOf P (feedOf u bytes image buffer .unit)
   unfolding feedOf
   feeds u bytes image buffer h =
       let g = receivedBy u bytes in
@@ -54,9 +53,9 @@ module _ {P : List ℕ → Core → Type 0} (k : Kept P) where
       (λ b. cases Q (rightLength image) (λ i. k .obeys h (frame-does (g .frame) (bodyBy u bytes) (u .core))) (λ i. h))
     where
       Q : Feeding → Type 0
-      Q r = Holds P (r .unit)
+      Q r = HoldsOf P (r .unit)
 
-  turns : (u : Drive) (sample ms steps : ℕ) (image : List ℕ) → Holds P u → Holds P (turnOf u sample ms steps image .unit)
+  turns : (u : Drive) (sample ms steps : ℕ) (image : List ℕ) → HoldsOf P u → HoldsOf P (turnOf u sample ms steps image .unit)
   unfolding turnOf turnCore
   turns u sample ms steps image h =
       cases Q (rightLength image)
@@ -67,7 +66,7 @@ module _ {P : List ℕ → Core → Type 0} (k : Kept P) where
       (λ i. h)
     where
       Q : Turning → Type 0
-      Q r = Holds P (r .unit)
+      Q r = HoldsOf P (r .unit)
 
   pub calls-keep : CallsKeep P
   calls-keep = record { starts = starts; feeds = feeds; turns = turns }

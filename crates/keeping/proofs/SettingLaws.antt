@@ -20,7 +20,7 @@ use Rattle.commands.proofs.TableLaws.{exponent-most}
 use Rattle.turns.specs.declared.setting.Settings.{Settings}
 use Rattle.turns.specs.declared.Core.{Core}
 use Rattle.turns.specs.Settings.{exponentOr}
-use Rattle.keeping.specs.Deeds.{Sets, none, setting, Turns-at, same-speed, from-v}
+use Rattle.keeping.specs.Deeds.{SettingsLead, none, setting, EndlessLeads, same-speed, from-v}
 
 -- a number from a row of the table is at most the row's greatest
 pub up-to : (low n high : ℕ) → within (Range.From low high) n 2 ≡ true → n ≤ high
@@ -41,7 +41,7 @@ abbrev Wide : ℕ → Type 0
 Wide n = n ≤ widest
 
 -- `V`: "1 to 16777216"
-pub speed-fits : {s r : Settings} → Sets s r → s .speed ≤ widest → r .speed ≤ widest
+pub speed-fits : {s r : Settings} → SettingsLead s r → s .speed ≤ widest → r .speed ≤ widest
 unfolding asksOf find table
 speed-fits none h = h
 speed-fits (setting which n r) h =
@@ -55,12 +55,12 @@ pub speed-most : (n : ℕ) → inRange (Plain (Set TopSpeed n)) ≡ true → n �
 unfolding asksOf find table
 speed-most n r = omega (arith, up-to 1 n 16777216 (row-holds 86 n TopSpeed refl r))
 
-pub endless-fits : {c : Core} {e : ℕ} → Turns-at c e → c .endless ≤ widest → c .settings .speed ≤ widest → e ≤ widest
+pub endless-fits : {c : Core} {e : ℕ} → EndlessLeads c e → c .endless ≤ widest → c .settings .speed ≤ widest → e ≤ widest
 endless-fits same-speed h v = h
 endless-fits from-v h v = v
 
 -- `o`: "1400 to 1650"
-pub correction-fits : {s r : Settings} → Sets s r → s .correction ≤ widest → r .correction ≤ widest
+pub correction-fits : {s r : Settings} → SettingsLead s r → s .correction ≤ widest → r .correction ≤ widest
 unfolding asksOf find table
 correction-fits none h = h
 correction-fits (setting which n r) h =
@@ -70,7 +70,7 @@ correction-fits (setting which n r) h =
     (λ e. h)
 
 -- "the exponent of `j`, 0 to 8"
-pub exponent-fits : {s r : Settings} → Sets s r → s .exponent ≤ 8 → r .exponent ≤ 8
+pub exponent-fits : {s r : Settings} → SettingsLead s r → s .exponent ≤ 8 → r .exponent ≤ 8
 exponent-fits none h = h
 exponent-fits {s} (setting which n r) h =
     cases (λ (k : ℕ). k ≤ 8) (eqb 106 (settingLetter which))

@@ -9,7 +9,7 @@ use lib.ListN.{length, getD, take, drop, length-append, length-drop, take-append
 use lib.Seq.{drop-drop, take-at, drop-cons}
 use lib.Dec.{leb, eqb}
 use borrow.Author.Tests.{eqb-true, le-ltb}
-use Rattle.parts.specs.Parts.{part}
+use Rattle.parts.specs.Parts.{part, mostBytes}
 use Rattle.digits.specs.declared.Operand.{Operand}
 use Rattle.digits.specs.declared.Operand.the-variants.{Missing, Number, Above}
 use Rattle.digits.specs.Operand.{operandMost, operandUpTo}
@@ -21,23 +21,23 @@ use Rattle.commands.specs.declared.Read.{Read}
 use Rattle.commands.specs.declared.Read.the-variants.{At, Bad, End}
 use Rattle.commands.specs.Reading.{fault, badOperand, readAt}
 use Rattle.commands.proofs.ReadingLaws.{read-step, read-place, read-on, bad-inside, onRead}
-use Rattle.commands.proofs.WritingLaws.{spells-as}
+use Rattle.commands.proofs.SpelledLaws.{spells-as}
 use Rattle.lines.specs.declared.Slot.{Slot}
 use Rattle.lines.specs.declared.Slot.the-variants.{NoSlot, Into}
 use Rattle.lines.specs.declared.Body.{Body}
 use Rattle.lines.specs.declared.Taken.{Taken}
 use Rattle.lines.specs.declared.Judged.{Judged}
 use Rattle.lines.specs.declared.Judged.the-variants.{Passes, Refused}
-use Rattle.lines.specs.Texts.{Reading, commands, faulty, Placed, placed, unplaced, before, goesOn, readingFrom, structured, storable, faultPlaces, storedPlaces, refusedAt, leftmost, judged, lineJudged, storedBy, storedJudged, mostBytes}
+use Rattle.lines.specs.Texts.{Reading, commands, faulty, Placed, placed, unplaced, before, goesOn, readingFrom, structured, storable, faultPlaces, storedPlaces, judgedPlaces, leftmost, judged, lineJudged, storedBy, storedJudged}
 use Rattle.lines.specs.Bodies.{bodyOf, endsWithR, taken, behind, mostSlot, storeOf, storedAt, takenOf, lineOf, lineCode}
-use Rattle.lines.specs.Lists.{HostList, runText, allInRange, slotInRange, shaped, listFault, SpellsCommands, none, more, SpellsSlot, without, into, Spells, spells}
+use Rattle.lines.specs.Lists.{HostList, runText, allInRange, slotInRange, listFault, SpellsCommands, none, more, SpellsSlot, without, into, Spells, spells}
 use Rattle.lines.specs.Claims.{cutAt, ReadsBefore, Because, by-structure, by-command, by-slot}
 use Rattle.lines.proofs.PlaceLaws.{nowhere, places-none, stored-none}
 use Rattle.lines.proofs.TextLaws.{reading-law}
-use Rattle.lines.proofs.TakenLaws.{no, textOf, text-run, text-length, store-bytes}
+use Rattle.lines.proofs.TakenLaws.{no, textOf, text-run, text-length}
 use Rattle.lines.proofs.PieceLaws.{spelled-pieces}
 use Rattle.lines.proofs.ListLaws.{spelled-head, told}
-use Rattle.lines.proofs.SpellLaws.{reading-spells, slot-few, body-length}
+use Rattle.lines.proofs.SpellLaws.{reading-spells, slot-few, line-short}
 
 -- ---- what stands before a bad command
 
@@ -141,7 +141,7 @@ data Why (places : List Placed → List ℕ) (r : Reading) (f : Fault) : Type 0 
 why : (places : List Placed → List ℕ) (r : Reading) (f : Fault) → judged places r ≡ Refused f → Why places r f
 why places (commands cs) f e = go (places cs) refl e
   where
-    go : (ps : List ℕ) → places cs ≡ ps → refusedAt ps ≡ Refused f → Why places (commands cs) f
+    go : (ps : List ℕ) → places cs ≡ ps → judgedPlaces ps ≡ Refused f → Why places (commands cs) f
     go [] q k = no (cc)
     go (p ∷ ps) q k =
         let w : fault 2 (leftmost (p ∷ ps)) ≡ f = cc in
@@ -259,7 +259,7 @@ because b f l e = go (eqb (getD t 0 0) 115) refl e
     t = textOf b
 
     m : length b ≤ mostBytes
-    m = body-length b l
+    m = line-short b l
 
     line : (j : Judged) → lineJudged t ≡ j → taken j (Taken.Line (length t) (endsWithR b)) ≡ Taken.Refused f → Because b f
     line Passes q k = no (cc)

@@ -1,6 +1,6 @@
 -- What is taken, and what passes a check, has no run of too many digits; where there is none, every limit judges alike.
 -- Assumes nothing.
-use Prim.Native.Nat.{ℕ, _+_, _≤_, _<_}
+use Prim.Native.Nat.{ℕ, _≤_, _<_}
 use mathlib.Core.Path.{_≡_, refl, sym, ap, _∙_}
 use mathlib.Core.List.{List, [], _++_, append-nil, append-assoc}
 use mathlib.Core.Bool.{Bool, true, false, _&&_}
@@ -17,7 +17,8 @@ use Rattle.commands.specs.declared.Command.{Command}
 use Rattle.commands.proofs.WritingLaws.{letter-first, spelling-no-digit, spelling-few, spelling-most}
 use Rattle.lines.specs.declared.Body.{Body}
 use Rattle.lines.specs.declared.Slot.{Slot}
-use Rattle.lines.specs.Texts.{Reading, storedPlaces, judged, passed, mostBytes, storedBy, textGoodBy, textGood, olderGood}
+use Rattle.parts.specs.Parts.{mostBytes}
+use Rattle.lines.specs.Texts.{Reading, storedPlaces, judged, passed, storedBy, textGoodBy, textGood, olderGood}
 use Rattle.lines.specs.Bodies.{bodyOf, lineOf, takenCode}
 use Rattle.lines.specs.Lists.{HostList, runText, SpellsCommands, none, more, SpellsSlot, without, into, Spells, spells}
 use Rattle.lines.specs.Loops.{Checked}

@@ -14,8 +14,8 @@ use Rattle.commands.specs.declared.Read.the-variants.{At, Bad, End}
 use Rattle.commands.specs.Reading.{readAt}
 use Rattle.commands.proofs.ReadingLaws.{read-step}
 use Rattle.lines.specs.declared.Judged.the-variants.{Passes}
-use Rattle.lines.specs.Texts.{Reading, commands, faulty, Placed, placed, unplaced, before, goesOn, readingFrom, structured, skippable, rest, faultPlaces, storedPlaces, refusedAt, judged, lineJudged, storable, storedBy, storedJudged, mostOpen}
-use Rattle.lines.specs.Loops.{after, Enclosed, start, next, scanTo, enclosing, Checked, Skippable, Lawful}
+use Rattle.lines.specs.Texts.{Reading, commands, faulty, Placed, placed, unplaced, before, goesOn, readingFrom, structured, skippable, rest, faultPlaces, storedPlaces, judgedPlaces, judged, lineJudged, storable, storedBy, storedJudged, mostOpen}
+use Rattle.lines.specs.Loops.{openAfter, Enclosed, start, next, scanTo, enclosing, Checked, Skippable, Lawful}
 use Rattle.lines.proofs.PlaceLaws.{nowhere, nil-none, places-none, stored-none}
 use Rattle.lines.proofs.TextLaws.{reading-law}
 
@@ -31,7 +31,7 @@ pub record Rest (t : List ℕ) (at depth : ℕ) : Type 0 where
 pub passes : (places : List Placed → List ℕ) (r : Reading) → judged places r ≡ Passes → (cs : List Placed) × (r ≡ commands cs) × (nowhere (places cs) ≡ true)
 passes places (commands cs) e = (cs, refl, go (places cs) e)
   where
-    go : (ps : List ℕ) → refusedAt ps ≡ Passes → nowhere ps ≡ true
+    go : (ps : List ℕ) → judgedPlaces ps ≡ Passes → nowhere ps ≡ true
     go [] k = refl
     go (p ∷ ps) k = let z : _≡_ {A = ℕ} 0 1 = cc in absurd (omega arith)
 passes places (faulty f) e = let z : _≡_ {A = ℕ} 0 1 = cc in absurd (omega arith)
@@ -63,7 +63,7 @@ deeper (Skip m) d = d
 deeper (Jump m) d = d
 deeper (Plain a) d = d
 
-deeper-after : (c : Command) (n : ℕ) (st : List ℕ) → deeper c (length st) ≡ length (after c n st)
+deeper-after : (c : Command) (n : ℕ) (st : List ℕ) → deeper c (length st) ≡ length (openAfter c n st)
 deeper-after LoopBegin n st = omega arith
 deeper-after (LoopEnd m) n [] = refl
 deeper-after (LoopEnd m) n (x ∷ xs) = omega arith
@@ -160,7 +160,7 @@ pub at-most-four : {t : List ℕ} {at : ℕ} {st : List ℕ} → Checked t → E
 at-most-four h start = omega arith
 at-most-four {t} h (next {at = a} {starts = s} c n p e) = go c (rw e at (lawful h p)) (at-most-four h p)
   where
-    go : (c : Command) → Lawful t (length s) (At c n) → length s ≤ mostOpen → length (after c n s) ≤ mostOpen
+    go : (c : Command) → Lawful t (length s) (At c n) → length s ≤ mostOpen → length (openAfter c n s) ≤ mostOpen
     go LoopBegin q l = omega arith
     go (LoopEnd m) q l = let z = deeper-after (LoopEnd m) n s in omega arith
     go (Skip m) q l = l
@@ -194,7 +194,7 @@ scan-at {t} (next {at = a} {starts = s} c n p e) to l =
     let q = scan-at p to (omega arith) in
     go (q .0) (q .1) (q .2) (lt .0)
   where
-    go : (k : ℕ) → to ≤ a + k → enclosing t to ≡ scanTo k t to a s → a < n → (j : ℕ) × (to ≤ n + j) × (enclosing t to ≡ scanTo j t to n (after c n s))
+    go : (k : ℕ) → to ≤ a + k → enclosing t to ≡ scanTo k t to a s → a < n → (j : ℕ) × (to ≤ n + j) × (enclosing t to ≡ scanTo j t to n (openAfter c n s))
     go zero w r lt = absurd (omega arith)
     go (suc j) w r lt = (j, omega arith, r ∙ rw (ne-eqb a to (omega arith), e))
 

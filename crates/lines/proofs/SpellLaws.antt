@@ -3,14 +3,14 @@
 use Prim.Native.Nat.{ℕ, _+_, _-_, _≤_}
 use mathlib.Core.Path.{_≡_, refl, sym, ap, subst, _∙_}
 use mathlib.Core.List.{List, [], _∷_, _++_}
-use mathlib.Core.Bool.{Bool, true, false, cond, and-eq-true-iff}
+use mathlib.Core.Bool.{Bool, true, false, cond}
 use native.Mathlib.Omega.{arith}
 use lib.ListN.{length, getD, drop, take-append-drop, drop-of-length-le}
 use lib.Seq.{drop-drop}
-use lib.Dec.{ltb, eqb}
+use lib.Dec.{ltb}
 use borrow.Author.Tests.{ltb-false, eqb-true}
-use Rattle.parts.specs.Parts.{part, same}
-use Rattle.parts.proofs.Laws.{cases}
+use Rattle.parts.specs.Parts.{part, same, mostBytes}
+use Rattle.parts.proofs.Laws.{cases, same-is}
 use Rattle.digits.specs.declared.Operand.the-variants.{Number}
 use Rattle.digits.specs.Operand.{operandMost, operandUpTo}
 use Rattle.digits.specs.ReadBack.{spelling}
@@ -21,12 +21,12 @@ use Rattle.commands.specs.declared.Read.the-variants.{At, Bad, End}
 use Rattle.commands.specs.Table.{oneOf}
 use Rattle.commands.specs.Reading.{fault, readAt}
 use Rattle.commands.proofs.ReadingLaws.{read-step}
-use Rattle.commands.proofs.WritingLaws.{spells-as}
+use Rattle.commands.proofs.SpelledLaws.{spells-as}
 use Rattle.lines.specs.declared.Slot.the-variants.{NoSlot, Into}
 use Rattle.lines.specs.declared.Body.{Body}
 use Rattle.lines.specs.declared.Taken.{Taken}
-use Rattle.lines.specs.Texts.{commands, Placed, placed, unplaced, goesOn, readingFrom, structured, mostBytes}
-use Rattle.lines.specs.Bodies.{Row, bodyOf, beginsImmediate, immediates, immediateIn, otherOf, endsWithR, lineOf, takenCode}
+use Rattle.lines.specs.Texts.{commands, Placed, placed, unplaced, goesOn, readingFrom, structured}
+use Rattle.lines.specs.Bodies.{ImmediateRow, bodyOf, beginsImmediate, immediates, immediateIn, otherOf, endsWithR, lineOf, takenCode}
 use Rattle.lines.specs.Lists.{HostList, runText, allInRange, listFault, SpellsCommands, none, more, without, into, Spells, spells, list, listOf, takenList, bodyList}
 use Rattle.lines.specs.Claims.{Spelled, SpelledAs}
 use Rattle.lines.proofs.TextLaws.{reading-law}
@@ -91,9 +91,10 @@ slot-few t slot at e =
     let w = spelled t 1 slot at (k .0) in
     omega (arith, k .1, read-length t (drop at t) 1 (w .zeros) slot (w .bytes) (w .no-more), spelling-long (w .zeros) slot)
 
-pub body-length : (b : List ℕ) → bodyOf b ≡ Body.Line → length b ≤ mostBytes
+-- a body that is read as a line is not over-long
+pub line-short : (b : List ℕ) → bodyOf b ≡ Body.Line → length b ≤ mostBytes
 unfolding bodyOf
-body-length b e = go (ltb mostBytes (length b)) refl e
+line-short b e = go (ltb mostBytes (length b)) refl e
   where
     go : (o : Bool) → ltb mostBytes (length b) ≡ o → cond o (Body.Refused (fault 2 0)) (cond (beginsImmediate b) (immediateIn immediates b) (otherOf b)) ≡ Body.Line
         → length b ≤ mostBytes
@@ -140,21 +141,12 @@ taken-spelled b f e = go (lineOf b) refl (taken-code (textOf b) (endsWithR b)) e
   where
     go : (x : Taken) → lineOf b ≡ x → TakenCode x → takenCode x ≡ 0 → Spelled b
     go (Taken.Refused x) q h k = let y = rw k at h in no (cc)
-    go (Taken.Line n r) q h k = line-spelled b n r (body-length b f) q
-    go (Taken.Store slot at n) q h k = store-spelled b slot at n (body-length b f) q
+    go (Taken.Line n r) q h k = line-spelled b n r (line-short b f) q
+    go (Taken.Store slot at n) q h k = store-spelled b slot at n (line-short b f) q
 
 -- ---- what reads as a list spells it
 
 -- bytes that are the same are one list
-same-bytes : (xs ys : List ℕ) → same xs ys ≡ true → xs ≡ ys
-unfolding same
-same-bytes [] [] e = refl
-same-bytes [] (y ∷ ys) e = no (cc)
-same-bytes (x ∷ xs) [] e = no (cc)
-same-bytes (x ∷ xs) (y ∷ ys) e =
-    let k = and-eq-true-iff (eqb x y) (same xs ys) .0 e in
-    ap (λ (l : List ℕ). x ∷ l) (same-bytes xs ys (k .1)) ∙ ap (λ (z : ℕ). z ∷ ys) (eqb-true x y (k .0))
-
 -- the bytes of a body that is nothing, or `R` alone
 abbrev Alone : List ℕ → Body → Type 0
 Alone b (Body.Refused f) = Unit
@@ -164,7 +156,7 @@ Alone b Body.Run = b ≡ 82 ∷ []
 Alone b Body.Again = Unit
 Alone b Body.Line = Unit
 
-immediate-alone : (b : List ℕ) (rs : List Row) → Alone b (immediateIn rs b)
+immediate-alone : (b : List ℕ) (rs : List ImmediateRow) → Alone b (immediateIn rs b)
 unfolding immediateIn
 immediate-alone b [] = tt
 immediate-alone b (r ∷ rs) = cases (Alone b) (same b (r .bytes)) (λ e. tt) (λ e. immediate-alone b rs)
@@ -174,8 +166,8 @@ unfolding bodyOf
 alone b =
     cases (Alone b) (ltb mostBytes (length b)) (λ e. tt)
     (λ e. cases (Alone b) (beginsImmediate b) (λ e. immediate-alone b immediates)
-    (λ e. cases (Alone b) (same b []) (λ e. same-bytes b [] e)
-    (λ e. cases (Alone b) (same b (82 ∷ [])) (λ e. same-bytes b (82 ∷ []) e)
+    (λ e. cases (Alone b) (same b []) (λ e. same-is b [] e)
+    (λ e. cases (Alone b) (same b (82 ∷ [])) (λ e. same-is b (82 ∷ []) e)
     (λ e. cases (Alone b) (same b (88 ∷ [])) (λ e. tt) (λ e. tt)))))
 
 pub reads-spelled : (b : List ℕ) (l : HostList) → listOf b ≡ list l → SpelledAs l b
@@ -201,8 +193,8 @@ reads-spelled b l e = go (bodyOf b) refl (alone b) e
 
     line : (x : Taken) → lineOf b ≡ x → bodyOf b ≡ Body.Line → takenList x b ≡ list l → SpelledAs l b
     line (Taken.Refused f) q h k = no (cc)
-    line (Taken.Line n r) q h k = as-means e (line-spelled b n r (body-length b h) q)
-    line (Taken.Store slot at n) q h k = as-means e (store-spelled b slot at n (body-length b h) q)
+    line (Taken.Line n r) q h k = as-means e (line-spelled b n r (line-short b h) q)
+    line (Taken.Store slot at n) q h k = as-means e (store-spelled b slot at n (line-short b h) q)
 
     go : (x : Body) → bodyOf b ≡ x → Alone b x → bodyList x b ≡ list l → SpelledAs l b
     go (Body.Refused f) q a k = no (cc)

@@ -8,7 +8,7 @@ use lib.ListN.{length, getD, take, drop, length-append, length-drop, List·getD-
 use lib.Seq.{take-at, take-all, take-suc, take-length, drop-append-le, drop-cons}
 use lib.Dec.{leb, eqb}
 use borrow.Author.Tests.{leb-true, le-leb, eqb-true}
-use Rattle.parts.specs.Parts.{part, same}
+use Rattle.parts.specs.Parts.{part, same, mostBytes}
 use Rattle.digits.specs.declared.Operand.{Operand}
 use Rattle.digits.specs.declared.Operand.the-variants.{Missing, Number, Above}
 use Rattle.digits.specs.Operand.{operandMost, operandUpTo}
@@ -20,7 +20,7 @@ use Rattle.lines.specs.declared.Body.{Body}
 use Rattle.lines.specs.declared.Taken.{Taken}
 use Rattle.lines.specs.declared.Judged.{Judged}
 use Rattle.lines.specs.declared.Judged.the-variants.{Passes, Refused}
-use Rattle.lines.specs.Texts.{unplaced, storable, lineJudged, storedJudged, passed, textGoodBy, textGood, mostBytes}
+use Rattle.lines.specs.Texts.{unplaced, storable, lineJudged, storedJudged, passed, textGoodBy, textGood}
 use Rattle.lines.specs.Bodies.{bodyOf, endsWithR, textEnd, taken, behind, mostSlot, storedAt, storeOf, takenOf, lineOf}
 use Rattle.lines.specs.Lists.{runText}
 use Rattle.lines.specs.Loops.{Checked}

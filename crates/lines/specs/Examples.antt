@@ -2,19 +2,15 @@
 -- K5 to K8 and K11 of 01, and edges around them.
 -- Assumes nothing.
 use Prim.Native.Nat.{ℕ, zero, suc}
-use Prim.Native.Char.{code}
 use Prim.Native.String as Text
 use mathlib.Core.List.{List, [], _∷_, _++_}
 use mathlib.Core.Bool.{Bool, true, false, _&&_, not}
 use lib.ListN.{replicate}
 use lib.Dec.{eqb}
+use Rattle.parts.specs.Letters.{byte, bytes}
+use Rattle.commands.specs.Reading.{outOfRange}
 use Rattle.lines.specs.Texts.{textGood, olderGood}
 use Rattle.lines.specs.Bodies.{lineFault, lineCode}
-
--- the bytes of a text
-unfoldable pub bytes : Text.String → List ℕ
-bytes Text.[] = []
-bytes (Text._∷_ c s) = code c ∷ bytes s
 
 -- so many times the same bytes
 unfoldable pub many : ℕ → List ℕ → List ℕ
@@ -77,7 +73,7 @@ examples =
     ∷ example (bytes "s12gA5") 2 4
     ∷ example (bytes "s12G1x1") 2 6
     ∷ example (bytes "sA5R") 3 1
-    ∷ example (115 ∷ (replicate 10 48 ++ many 14 (122 ∷ replicate 10 48))) 2 166
+    ∷ example (byte "s" ∷ (replicate 10 (byte "0") ++ many 14 (byte "z" ∷ replicate 10 (byte "0")))) 2 166
     ∷ example (bytes "A1L0R") 3 3
     ∷ example (bytes "A1G1R") 2 3
     ∷ example (bytes "G1gP1R") 2 1
@@ -96,11 +92,11 @@ examples =
     ∷ example [] 0 0
     -- "the body has 0 to 256 bytes"
     ∷ example (many 127 (bytes "z0") ++ bytes "gG") 0 0
-    ∷ example (65 ∷ (replicate 255 48 ++ bytes "R")) 2 0
+    ∷ example (byte "A" ∷ (replicate 255 (byte "0") ++ bytes "R")) 2 0
     -- 02, E9: ten digits are taken, eleven refused, before their range and whatever they are; the slot's too; in a text to be stored
     ∷ example (bytes "A0000000005R") 0 0
     ∷ example (bytes "A00000000005R") 3 1
-    ∷ example (65 ∷ (replicate 254 48 ++ bytes "R")) 3 1
+    ∷ example (byte "A" ∷ (replicate 254 (byte "0") ++ bytes "R")) 3 1
     ∷ example (bytes "A1V00000000001R") 3 3
     ∷ example (bytes "s0000000003R") 0 0
     ∷ example (bytes "s00000000003R") 3 1
@@ -127,8 +123,8 @@ unfoldable pub olders : List Older
 olders =
     older (bytes "A0000000005") true true
     ∷ older (bytes "A00000000005") false true
-    ∷ older (65 ∷ replicate 255 48) false true
-    ∷ older (65 ∷ replicate 256 48) false false
+    ∷ older (byte "A" ∷ replicate 255 (byte "0")) false true
+    ∷ older (byte "A" ∷ replicate 256 (byte "0")) false false
     ∷ older (bytes "gA5G00000000002") false true
     ∷ older (bytes "A42949672970") false false
     ∷ older (bytes "H00000000002") false false
@@ -139,9 +135,9 @@ abbrev pub alike : Bool → Bool → Bool
 alike true b = b
 alike false b = not b
 
-unfoldable pub checked-each : List Older → Bool
-checked-each [] = true
-checked-each (o ∷ os) = alike (textGood (o .text)) (o .now) && alike (olderGood (o .text)) (o .earlier) && checked-each os
+unfoldable pub eachOlder : List Older → Bool
+eachOlder [] = true
+eachOlder (o ∷ os) = alike (textGood (o .text)) (o .now) && alike (olderGood (o .text)) (o .earlier) && eachOlder os
 
 -- ---- the table of commands, at its edges
 
@@ -183,14 +179,14 @@ operands =
     ∷ []
 
 -- each operand, where it stands, gives this code
-unfoldable pub code-each : ℕ → Text.String → Text.String → List Text.String → Bool
-code-each c l r [] = true
-code-each c l r (x ∷ xs) = eqb (lineCode (bytes l ++ (bytes x ++ bytes r))) c && code-each c l r xs
+unfoldable pub eachCode : ℕ → Text.String → Text.String → List Text.String → Bool
+eachCode c l r [] = true
+eachCode c l r (x ∷ xs) = eqb (lineCode (bytes l ++ (bytes x ++ bytes r))) c && eachCode c l r xs
 
 -- "operand missing or out of range (3)"
-unfoldable pub judged : List Operands → Bool
-judged [] = true
-judged (o ∷ os) = code-each 0 (o .before) (o .behind) (o .good) && code-each 3 (o .before) (o .behind) (o .bad) && judged os
+unfoldable pub eachOperand : List Operands → Bool
+eachOperand [] = true
+eachOperand (o ∷ os) = eachCode 0 (o .before) (o .behind) (o .good) && eachCode outOfRange (o .before) (o .behind) (o .bad) && eachOperand os
 
 -- each body gets its code and its place
 unfoldable pub each : List Example → Bool

@@ -14,21 +14,21 @@ use Rattle.lines.specs.declared.Judged.the-variants.{Passes}
 use Rattle.lines.specs.Texts.{lineJudged, mostOpen, rest}
 
 -- the starts of the open loops, innermost first, behind a command whose next place is n: "each `G` closes the nearest open `g`"
-abbrev pub after : Command → ℕ → List ℕ → List ℕ
-after LoopBegin n starts = n ∷ starts
-after (LoopEnd m) n starts = rest starts
-after (Skip m) n starts = starts
-after (Jump m) n starts = starts
-after (Plain a) n starts = starts
+abbrev pub openAfter : Command → ℕ → List ℕ → List ℕ
+openAfter LoopBegin n starts = n ∷ starts
+openAfter (LoopEnd m) n starts = rest starts
+openAfter (Skip m) n starts = starts
+openAfter (Jump m) n starts = starts
+openAfter (Plain a) n starts = starts
 
 -- `Enclosed t at starts`: a command (or the end) of t stands at `at`, and the loops open before it begin at `starts`
 pub data Enclosed (t : List ℕ) : ℕ → List ℕ → Type 0 where
   start : Enclosed t 0 []
-  next : {at : ℕ} {starts : List ℕ} (c : Command) (n : ℕ) → Enclosed t at starts → readAt t at ≡ At c n → Enclosed t n (after c n starts)
+  next : {at : ℕ} {starts : List ℕ} (c : Command) (n : ℕ) → Enclosed t at starts → readAt t at ≡ At c n → Enclosed t n (openAfter c n starts)
 
 -- the same as a function: the text read from its start up to the place `to`
 abbrev pub scanRead : Read → (ℕ → List ℕ → List ℕ) → List ℕ → List ℕ
-scanRead (At c n) go starts = go n (after c n starts)
+scanRead (At c n) go starts = go n (openAfter c n starts)
 scanRead (Bad f) go starts = starts
 scanRead End go starts = starts
 

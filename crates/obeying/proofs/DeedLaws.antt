@@ -4,11 +4,11 @@ use mathlib.Core.Path.{_≡_, refl, sym, ap, subst, _∙_}
 use mathlib.Core.List.{List, [], _∷_}
 use mathlib.Core.Bool.{Bool, true, false, cond, _&&_, and-eq-true-iff}
 use native.Mathlib.Omega.{arith}
-use native.Mathlib.Decide.{decLt}
 use lib.Dec.{ltb, eqb}
 use lib.ListN.{length, drop}
 use borrow.Author.Tests.{ltb-true, lt-ltb, eqb-true}
 use Rattle.parts.proofs.Laws.{cases}
+use Rattle.parts.specs.Parts.{mostBytes}
 use Rattle.digits.specs.declared.Operand.{Operand}
 use Rattle.digits.specs.declared.Operand.the-variants.{Missing, Number, Above}
 use Rattle.digits.specs.Operand.{digitRun, operandAt, operandMost, operandUpTo}
@@ -20,11 +20,11 @@ use Rattle.lines.specs.declared.Immediate.{Immediate}
 use Rattle.lines.specs.declared.Immediate.the-variants.{Terminate, Status, CurrentText, Position, Speed, Sample, EndlessSpeed, StepSize, Correction, Clear}
 use Rattle.lines.specs.declared.Body.{Body}
 use Rattle.lines.specs.declared.Taken.{Taken}
-use Rattle.lines.specs.Texts.{mostBytes}
-use Rattle.lines.specs.Bodies.{bodyOf, lineOf, takenFault, bodyFault, takenCode, bodyCode, lineFault, lineCode}
+use Rattle.lines.specs.Bodies.{bodyOf, lineOf, bodyFault, takenCode, bodyCode, lineFault, lineCode}
 use Rattle.lines.proofs.CodeLaws.{codes}
 use Rattle.lines.proofs.FaultLaws.{place-most}
 use Rattle.lines.proofs.TakenLaws.{held, stored}
+pub use Rattle.lines.proofs.SpellLaws.{line-short}
 use Rattle.motor.specs.Motion.{waitsInput, isEndless}
 use Rattle.motor.specs.Deeds.{codeValues}
 use Rattle.turns.specs.declared.Core.{Core}
@@ -33,7 +33,7 @@ use Rattle.obeying.specs.declared.Obeyed.{Obeyed}
 use Rattle.obeying.specs.Obeying as obeying
 use Rattle.obeying.specs.Obeying.{busy, placeTold, silent, immediateObeyed, lineObeyed, speedOrBusy, kindObeyed, bodyObeyed}
 use Rattle.obeying.specs.Speed.{speedLine, numberIn, speedIn}
-use Rattle.obeying.specs.Deeds.{Tells, nothingTold, textTold, positionTold, speedTold, sampleTold, endlessTold, stepSizeTold, correctionTold, Obeys, refuses, tells, stores, clears}
+use Rattle.obeying.specs.Deeds.{nothing-told, text-told, position-told, speed-told, sample-told, endless-told, step-size-told, correction-told, Obeys, refuses, tells, stores, clears}
 use Rattle.obeying.specs.Deeds.{stops, resumes, Speeds, speeds, again, loads}
 use Rattle.obeying.proofs.SpeedLaws.{fits, speedCode, speed-body, spelled-whole, speed-code}
 
@@ -42,16 +42,10 @@ line-code : (b : List ℕ) → lineCode b < codeValues
 unfolding each
 line-code b = ltb-true (lineCode b) codeValues (each-one (λ (x : ℕ). ltb x codeValues) (0 ∷ 2 ∷ 3 ∷ []) (lineCode b) refl (codes b))
 
--- a body that is read as a line is not over-long
+-- an over-long body is refused
 pub too-long : (b : List ℕ) → mostBytes < length b → bodyOf b ≡ Body.Refused (fault 2 0)
 unfolding bodyOf
 too-long b l = rw (lt-ltb _ _ l)
-
-pub line-short : (b : List ℕ) → bodyOf b ≡ Body.Line → length b ≤ mostBytes
-line-short b e = go (decLt mostBytes (length b)) where
-  go : Dec (mostBytes < length b) → length b ≤ mostBytes
-  go (yes l) = let t = too-long b l in let z : _≡_ {A = ℕ} 0 1 = cc in omega arith
-  go (no m) = omega arith
 
 -- no fault is told past the 257th byte
 pub refused-place : (b : List ℕ) {f : Fault} → bodyOf b ≡ Body.Refused f → f .place ≤ mostBytes + 1
@@ -74,18 +68,18 @@ module _ (body : List ℕ) (c : Core) where
   refusal = refuses (fault busy 0) (omega arith) (omega arith)
 
   quiet : Deed (silent c)
-  quiet = tells Tell.Nothing nothingTold
+  quiet = tells Tell.Nothing nothing-told
 
   immediate-does : (i : Immediate) → bodyOf body ≡ Body.Immediate i → Deed (immediateObeyed i c)
   immediate-does Terminate e = cases (λ (d : Core). Deed (silent d)) (c .running) (λ r. stops e r) (λ r. quiet)
   immediate-does Status e = quiet
-  immediate-does CurrentText e = tells Tell.Text textTold
-  immediate-does Position e = tells _ positionTold
-  immediate-does Speed e = tells _ speedTold
-  immediate-does Sample e = tells _ sampleTold
-  immediate-does EndlessSpeed e = tells _ endlessTold
-  immediate-does StepSize e = tells _ stepSizeTold
-  immediate-does Correction e = tells _ correctionTold
+  immediate-does CurrentText e = tells Tell.Text text-told
+  immediate-does Position e = tells _ position-told
+  immediate-does Speed e = tells _ speed-told
+  immediate-does Sample e = tells _ sample-told
+  immediate-does EndlessSpeed e = tells _ endless-told
+  immediate-does StepSize e = tells _ step-size-told
+  immediate-does Correction e = tells _ correction-told
   immediate-does Clear e = clears
 
   -- "its commands, one or more, become the current text"

@@ -1,6 +1,6 @@
 -- Laws of a body of exactly `V`, its operand and `R`: it gets 3 where the operand is missing or out of the range of `V`, and else it is taken.
 -- Assumes nothing.
-use Prim.Native.Nat.{ℕ, _+_, _-_, _≤_, _<_}
+use Prim.Native.Nat.{ℕ, _-_, _≤_, _<_}
 use mathlib.Core.Path.{_≡_, refl, sym, ap, _∙_}
 use mathlib.Core.List.{List, [], _∷_, _++_}
 use mathlib.Core.Bool.{Bool, true, false, cond, _&&_, and-eq-true-iff}
@@ -19,8 +19,7 @@ use Rattle.commands.specs.declared.Command.the-variants.{Plain}
 use Rattle.commands.specs.declared.Act.the-variants.{Set}
 use Rattle.commands.specs.declared.Setting.the-variants.{TopSpeed}
 use Rattle.commands.specs.declared.Range.{Range}
-use Rattle.commands.specs.declared.Read.{Read}
-use Rattle.commands.specs.declared.Read.the-variants.{At, Bad, End}
+use Rattle.commands.specs.declared.Read.the-variants.{At, Bad}
 use Rattle.commands.specs.Table.{table, find, asksOf, commandOf, within}
 use Rattle.commands.specs.Reading.{badOperand, required, readBy, readAt}
 use Rattle.commands.specs.Writing.{inRange}
@@ -28,11 +27,11 @@ use Rattle.commands.proofs.ReadingLaws.{read-append, read-end}
 use Rattle.lines.specs.declared.Taken.{Taken}
 use Rattle.lines.specs.declared.Judged.{Judged}
 use Rattle.lines.specs.declared.Judged.the-variants.{Passes, Refused}
-use Rattle.lines.specs.Texts.{Reading, commands, faulty, goesOn, readingFrom, faultPlaces, judged, lineJudged}
-use Rattle.lines.specs.Bodies.{endsWithR, textEnd, taken, takenOf, lineOf, takenCode}
+use Rattle.lines.specs.Texts.{commands, readingFrom, faultPlaces, lineJudged}
+use Rattle.lines.specs.Bodies.{endsWithR, taken, takenOf, lineOf, takenCode}
 use Rattle.lines.proofs.TextLaws.{reading-law}
 use Rattle.lines.proofs.TakenLaws.{textOf, text-run}
-use Rattle.obeying.specs.Speed.{operandEnd, numberIn, speedLine, speedIn}
+use Rattle.obeying.specs.Speed.{operandEnd, speedLine}
 
 -- `V n`, in the range of its row
 abbrev pub fits : ℕ → Bool

@@ -5,6 +5,8 @@ use mathlib.Core.Path.{_≡_}
 use mathlib.Core.List.{List, [], _∷_, _++_}
 use mathlib.Core.Bool.{Bool, true, false}
 use lib.ListN.{length, take}
+use Rattle.parts.specs.Letters.{byte, bytes}
+use Rattle.parts.specs.Parts.{mostBytes}
 use Rattle.digits.specs.Decimal.{decimal}
 use Rattle.digits.specs.Operand.{operandMost}
 use Rattle.digits.specs.ReadBack.{spelling}
@@ -13,7 +15,6 @@ use Rattle.commands.specs.declared.Command.the-variants.{Plain}
 use Rattle.commands.specs.declared.Act.the-variants.{Set}
 use Rattle.commands.specs.declared.Setting.the-variants.{TopSpeed}
 use Rattle.commands.specs.Writing.{inRange}
-use Rattle.lines.specs.Texts.{mostBytes}
 use Rattle.lines.specs.Loops.{Checked}
 use Rattle.lines.specs.Bodies.{bodyOf}
 use Rattle.lines.specs.declared.Body.{Body}
@@ -30,17 +31,17 @@ use Rattle.obeying.specs.Obeying.{stepSize, refusedAt, telling, silent, 
 
 -- what is told: nothing, the current text, or one of six numbers
 pub data Tells (c : Core) : Tell → Type 0 where
-  nothingTold : Tells c Tell.Nothing
-  textTold : Tells c Tell.Text
-  positionTold : Tells c (Tell.Number (c .motor .position))
-  speedTold : Tells c (Tell.Number (c .settings .speed))
-  sampleTold : Tells c (Tell.Number (c .motor .sample))
-  endlessTold : Tells c (Tell.Number (c .endless))
-  stepSizeTold : Tells c (Tell.Number (stepSize (c .settings .exponent)))
-  correctionTold : Tells c (Tell.Number (c .settings .correction))
+  nothing-told : Tells c Tell.Nothing
+  text-told : Tells c Tell.Text
+  position-told : Tells c (Tell.Number (c .motor .position))
+  speed-told : Tells c (Tell.Number (c .settings .speed))
+  sample-told : Tells c (Tell.Number (c .motor .sample))
+  endless-told : Tells c (Tell.Number (c .endless))
+  step-size-told : Tells c (Tell.Number (stepSize (c .settings .exponent)))
+  correction-told : Tells c (Tell.Number (c .settings .correction))
 
 -- the text of a line: a beginning of the body that passed the check
-pub record Loads (body : List ℕ) (n : ℕ) : Type 0 where
+pub record LineText (body : List ℕ) (n : ℕ) : Type 0 where
   pub inside : n ≤ length body
   pub short : length body ≤ mostBytes
   pub checked : Checked (take n body)
@@ -52,7 +53,7 @@ pub record Speeds (body : List ℕ) (c : Core) (n : ℕ) : Type 0 where
   pub short : length body ≤ mostBytes
   pub zeros : ℕ
   pub few : zeros + length (decimal n) ≤ operandMost
-  pub whole : body ≡ 86 ∷ (spelling zeros n ++ (82 ∷ []))
+  pub whole : body ≡ byte "V" ∷ (spelling zeros n ++ bytes "R")
   pub in-range : inRange (Plain (Set TopSpeed n)) ≡ true
 
 pub data Obeys (body : List ℕ) (c : Core) : Obeyed → Type 0 where
@@ -72,7 +73,7 @@ pub data Obeys (body : List ℕ) (c : Core) : Obeyed → Type 0 where
   -- `X`, and `R` for a loaded line
   again : c .running ≡ false → Obeys body c (silent (started (c .flow .length) c))
   -- a line that passed the check
-  loads : (run : Bool) (n : ℕ) → c .running ≡ false → Loads body n → Obeys body c (writing (Write.Text n) (loadedFor run n c))
+  loads : (run : Bool) (n : ℕ) → c .running ≡ false → LineText body n → Obeys body c (writing (Write.Text n) (loadedFor run n c))
 
 -- a body does nothing else
 abbrev pub BodiesDo : Type 0

@@ -66,8 +66,8 @@ abbrev pub writing : Write → Core → Obeyed
 writing write c = obeyed c (c .code) Tell.Nothing write
 
 -- where no frame was completed nothing is obeyed
-abbrev pub unheard : Core → Obeyed
-unheard c = silent c
+abbrev pub nothingObeyed : Core → Obeyed
+nothingObeyed c = silent c
 
 -- "`T` when idle does nothing"; it leaves the held code
 abbrev pub terminated : Core → Core

@@ -5,6 +5,7 @@ use mathlib.Core.List.{List}
 use mathlib.Core.Bool.{Bool, _&&_}
 use lib.ListN.{length, getD}
 use lib.Dec.{eqb}
+use Rattle.parts.specs.Letters.{byte}
 use Rattle.digits.specs.declared.Operand.{Operand}
 use Rattle.digits.specs.declared.Operand.the-variants.{Missing, Number, Above}
 use Rattle.digits.specs.Operand.{operandAt}
@@ -18,7 +19,7 @@ operandEnd (Above next) = next
 
 -- "A body of exactly `V`, its operand and `R`", the operand "missing or bad" too
 unfoldable pub speedLine : List ℕ → Bool
-speedLine b = eqb (getD b 0 0) 86 && (eqb (operandEnd (operandAt b 1)) (length b - 1) && endsWithR b)
+speedLine b = eqb (getD b 0 0) (byte "V") && (eqb (operandEnd (operandAt b 1)) (length b - 1) && endsWithR b)
 
 -- the number that an operand is; one that is missing or above all ranges is refused before it is asked for
 abbrev pub numberIn : Operand → ℕ

@@ -1,16 +1,17 @@
--- Laws of `part`, `put`, `putIn` and `padded`: what was written is read back, what was not is as it was. Assumes nothing.
+-- Laws of `part`, `put`, `putIn`, `padded` and `same`: what was written is read back, what was not is as it was. Assumes nothing.
 use mathlib.Core.Path.{_≡_, refl, sym, ap, _∙_}
 use mathlib.Core.List.{List, [], _∷_, _++_, append-assoc}
-use mathlib.Core.Bool.{Bool, true, false, cond}
+use mathlib.Core.Bool.{Bool, true, false, cond, and-eq-true-iff}
 use Prim.Native.Nat.{ℕ, zero, suc, _+_, _-_, _≤_, _<_}
 use native.Mathlib.Nat.{add-assoc, zero-add, sub-zero, zero-sub, suc-sub-suc}
 use native.Mathlib.Omega.{arith}
 use native.Mathlib.Numerals.{add-one}
 use lib.ListN.{length, set, take, drop, replicate, length-append, length-take, length-drop, length-replicate, take-append-drop}
 use lib.Seq.{set-split, drop-append-le, take-append-le, drop-drop, take-at, drop-at, length-take-le, take-length, take-append-seam}
-use borrow.Author.Tests.{le-leb, lt-leb, leb-true}
+use lib.Dec.{eqb}
+use borrow.Author.Tests.{le-leb, lt-leb, leb-true, eq-eqb, eqb-true}
 use borrow.Rule.Slice.PartMut.{putMid}
-use Rattle.parts.specs.Parts.{part, put, room, putIn, padded, PutIs}
+use Rattle.parts.specs.Parts.{part, put, fitsAt, putIn, padded, same, PutIs}
 
 -- a choice by a test has what both its sides have
 pub cases : {A : Type 0} (P : A → Type 0) (b : Bool) {x y : A} → (b ≡ true → P x) → (b ≡ false → P y) → P (cond b x y)
@@ -119,7 +120,7 @@ put-in-full xs a ys h = rw (lt-leb (a + length ys) (length xs) h)
 pub length-put-in : (xs : List ℕ) (a : ℕ) (ys : List ℕ) → length (putIn xs a ys) ≡ length xs
 unfolding putIn
 length-put-in xs a ys =
-    cases (λ (l : List ℕ). length l ≡ length xs) (room xs a (length ys)) (λ e. length-put xs a ys (leb-true _ _ e)) (λ e. refl)
+    cases (λ (l : List ℕ). length l ≡ length xs) (fitsAt xs a (length ys)) (λ e. length-put xs a ys (leb-true _ _ e)) (λ e. refl)
 
 -- the promise of a writer: met with room and without
 pub is-put : (dst : List ℕ) (at : ℕ) (src : List ℕ) {after : List ℕ} → at + length src ≤ length dst → after ≡ put dst at src → PutIs dst at src true after
@@ -154,3 +155,19 @@ put-zeros n t h =
     put-in-room (replicate n 0) 0 t (omega (arith, length-replicate {A = ℕ} n 0))
     ∙ put-front (replicate n 0) t
     ∙ ap (λ (l : List ℕ). t ++ l) (drop-zeros n (length t))
+
+-- ---- two lists, compared
+
+pub same-is : (xs ys : List ℕ) → same xs ys ≡ true → xs ≡ ys
+unfolding same
+same-is [] [] e = refl
+same-is [] (y ∷ ys) e = let z : _≡_ {A = ℕ} 0 1 = cc in absurd (omega arith)
+same-is (x ∷ xs) [] e = let z : _≡_ {A = ℕ} 0 1 = cc in absurd (omega arith)
+same-is (x ∷ xs) (y ∷ ys) e =
+    let k = and-eq-true-iff (eqb x y) (same xs ys) .0 e in
+    rw (eqb-true x y (k .0), same-is xs ys (k .1))
+
+pub same-self : (xs : List ℕ) → same xs xs ≡ true
+unfolding same
+same-self [] = refl
+same-self (x ∷ xs) = rw (eq-eqb x x refl) (same-self xs)

@@ -16,25 +16,29 @@ unfoldable pub put : List ℕ → ℕ → List ℕ → List ℕ
 put xs a ys = take a xs ++ (ys ++ drop (a + length ys) xs)
 
 -- whether n bytes from place a lie within xs
-abbrev pub room : List ℕ → ℕ → ℕ → Bool
-room xs a n = leb (a + n) (length xs)
+abbrev pub fitsAt : List ℕ → ℕ → ℕ → Bool
+fitsAt xs a n = leb (a + n) (length xs)
 
 -- ys written from place a where there is room; else nothing changes
 unfoldable pub putIn : List ℕ → ℕ → List ℕ → List ℕ
-putIn xs a ys = cond (room xs a (length ys)) (put xs a ys) xs
+putIn xs a ys = cond (fitsAt xs a (length ys)) (put xs a ys) xs
 
 -- the answer and the bytes after src was to be written at a place of dst: whether there was room, and what is left
 pub record PutIs (dst : List ℕ) (at : ℕ) (src : List ℕ) (answer : Bool) (after : List ℕ) : Type 0 where
-  pub answers : answer ≡ room dst at (length src)
+  pub answers : answer ≡ fitsAt dst at (length src)
   pub leaves : after ≡ putIn dst at src
 
 -- t with zeros behind it up to n bytes
 unfoldable pub padded : ℕ → List ℕ → List ℕ
 padded n t = t ++ replicate (n - length t) 0
 
--- "the body has 0 to 256 bytes": the first 256 bytes of t, with zeros behind them
+-- "the body has 0 to 256 bytes"
+abbrev pub mostBytes : ℕ
+mostBytes = 256
+
+-- the first 256 bytes of t, with zeros behind them
 abbrev pub paddedText : List ℕ → List ℕ
-paddedText t = padded 256 (take 256 t)
+paddedText t = padded mostBytes (take mostBytes t)
 
 -- two lists of bytes, compared
 unfoldable pub same : List ℕ → List ℕ → Bool

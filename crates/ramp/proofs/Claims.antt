@@ -5,19 +5,19 @@ use Prim.Native.Nat.{ℕ, _+_, _*_, _/_, zero-le}
 use native.Mathlib.Nat.{lt-irrefl, zero-mul, mul-comm, div-mul-le-self, lt-mul-div-succ}
 use native.Mathlib.Omega.{arith}
 use mathlib.Core.Bool.{Bool, false, not}
-use lib.Dec.{T, T-not, eqb, eqb-refl, lit≤, lit<}
+use lib.Dec.{T, T-not, eqb, eqb-refl, lit<}
 use lib.IntN.{pos}
 use lib.Ieee.{Float, lt}
 use lib.Ieee.Positive.{positive, positive-finite}
 use Rattle.ramp.specs.declared.Verdict.{Verdict}
 use Rattle.ramp.specs.declared.Verdict.the-variants.{Taken, RefusedV, RefusedL, RefusedN}
 use Rattle.ramp.specs.declared.Figures.{Figures}
-use Rattle.ramp.specs.Ranges.{topV, topL, topN, outside, Accepted}
-use Rattle.ramp.specs.Peak.{doubleUnit, greatest, peakOf}
-use Rattle.ramp.specs.Ramp.{timeOf, distanceOf, takenOf, refusedOf, figuresOf, codeOf}
-use Rattle.ramp.specs.Claims.{WholeFigures, ExactFloats, GoodTime, OneQuotient, Refused, NoBadTime, When, Outcome, K14, RampClaims}
+use Rattle.ramp.specs.Ranges.{topV, topL, topN, Accepted}
+use Rattle.ramp.specs.Peak.{doubleUnit, peakOf}
+use Rattle.ramp.specs.Ramp.{timeOf, distanceOf, peakFigures, refusedOf, figuresOf, verdictNumber}
+use Rattle.ramp.specs.Claims.{WholeFigures, ExactFloats, GoodTime, OneQuotient, Refused, NoBadTime, When, Verdicts, RampClaims}
 use Rattle.ramp.proofs.Ranges.{not-outside, is-outside}
-use Rattle.ramp.proofs.Peak.{pinned, whole, peak-is, peak-only, peak-within}
+use Rattle.ramp.proofs.Peak.{pinned, peak-is, peak-only, peak-within}
 use Rattle.ramp.proofs.Exact.{speed-exact, acceleration-exact, time-once, time-positive, no-time}
 use Rattle.ramp.proofs.Guards.{above-zero, no-nan, guarded, guarded-positive, nothing-below-nan}
 use Rattle.ramp.proofs.Cases.{Case, v-out, l-out, n-out, all-in, cases}
@@ -34,8 +34,8 @@ module _ (v l : ℕ) (endless : Bool) (n : ℕ) (a : Accepted v l endless n) whe
     number = no-nan t positive-time;
   }
 
-  whole-figures : WholeFigures v l endless n (takenOf (peakOf v l endless n) l)
-  unfolding takenOf distanceOf
+  whole-figures : WholeFigures v l endless n (peakFigures (peakOf v l endless n) l)
+  unfolding peakFigures distanceOf
   whole-figures = let p = peakOf v l endless n in record {
     peak = peak-is v l endless n;
     only = peak-only v l endless n;
@@ -43,22 +43,22 @@ module _ (v l : ℕ) (endless : Bool) (n : ℕ) (a : Accepted v l endless n) whe
     rounded-down = rw (mul-comm (p * p / (doubleUnit * l) + 1) (doubleUnit * l)) (lt-mul-div-succ (p * p) (omega (arith, a .within-l)));
   }
 
-  exact-floats : ExactFloats l (takenOf (peakOf v l endless n) l)
-  unfolding takenOf
+  exact-floats : ExactFloats l (peakFigures (peakOf v l endless n) l)
+  unfolding peakFigures
   exact-floats = record { speed = speed-exact _ (peak-within v l endless n a .1); acceleration = acceleration-exact l (a .within-l) }
 
-  one-quotient : OneQuotient l (takenOf (peakOf v l endless n) l)
-  unfolding takenOf timeOf
+  one-quotient : OneQuotient l (peakFigures (peakOf v l endless n) l)
+  unfolding peakFigures timeOf
   one-quotient = record {
     quotient = refl;
     one-rounding = time-once (peakOf v l endless n) l (peak-within v l endless n a) (a .within-l);
     good = good-time;
   }
 
-  taken-is : figuresOf v l endless n ≡ takenOf (peakOf v l endless n) l
+  taken-is : figuresOf v l endless n ≡ peakFigures (peakOf v l endless n) l
   taken-is = go (cases v l endless n)
     where
-      go : {f : Figures} → Case v l endless n f → f ≡ takenOf (peakOf v l endless n) l
+      go : {f : Figures} → Case v l endless n f → f ≡ peakFigures (peakOf v l endless n) l
       go (v-out o) = absurd (o (a .within-v))
       go (l-out w o) = absurd (o (a .within-l))
       go (n-out w x e o) = absurd (o (a .within-n e))
@@ -66,10 +66,10 @@ module _ (v l : ℕ) (endless : Bool) (n : ℕ) (a : Accepted v l endless n) whe
 
 -- ---- figures that are refused
 -- names with two numbers are two names
-clash : {A : Type 0} {w x : Verdict} → w ≡ x → T (not (eqb (codeOf w) (codeOf x))) → A
-clash {A} {w} {x} e t = absurd (T-not (eqb (codeOf w) (codeOf x)) t (subst (λ (z : Verdict). T (eqb (codeOf w) (codeOf z))) e (eqb-refl (codeOf w))))
+clash : {A : Type 0} {w x : Verdict} → w ≡ x → T (not (eqb (verdictNumber w) (verdictNumber x))) → A
+clash {A} {w} {x} e t = absurd (T-not (eqb (verdictNumber w) (verdictNumber x)) t (subst (λ (z : Verdict). T (eqb (verdictNumber w) (verdictNumber z))) e (eqb-refl (verdictNumber w))))
 
-refusal : (w : Verdict) → T (not (eqb (codeOf w) 0)) → Refused (refusedOf w)
+refusal : (w : Verdict) → T (not (eqb (verdictNumber w) 0)) → Refused (refusedOf w)
 unfolding refusedOf
 refusal w t = record {
   named = λ e. clash e t;
@@ -78,12 +78,12 @@ refusal w t = record {
 
 -- ---- all figures
 module _ (v l : ℕ) (endless : Bool) (n : ℕ) where
-  refused-time : (w : Verdict) → T (not (eqb (codeOf w) 0)) → NoBadTime v l endless n (refusedOf w)
+  refused-time : (w : Verdict) → T (not (eqb (verdictNumber w) 0)) → NoBadTime v l endless n (refusedOf w)
   unfolding refusedOf
   refused-time w t = record { time = λ e. clash e t; steps = λ e. clash e t; guard = guarded 0 (pos 0) }
 
   no-bad-time : {f : Figures} → Case v l endless n f → NoBadTime v l endless n f
-  unfolding takenOf
+  unfolding peakFigures
   no-bad-time (v-out o) = refused-time RefusedV tt
   no-bad-time (l-out w o) = refused-time RefusedL tt
   no-bad-time (n-out w x e o) = refused-time RefusedN tt
@@ -94,27 +94,27 @@ module _ (v l : ℕ) (endless : Bool) (n : ℕ) where
   }
 
   refused : {f : Figures} → Case v l endless n f → (f .verdict ≡ Taken → ⊥) → Refused f
-  unfolding takenOf
+  unfolding peakFigures
   refused (v-out o) h = refusal RefusedV tt
   refused (l-out w o) h = refusal RefusedL tt
   refused (n-out w x e o) h = refusal RefusedN tt
   refused (all-in a) h = absurd (h refl)
 
   told : {f : Figures} → Case v l endless n f → When (f .verdict) v l endless n
-  unfolding takenOf refusedOf
+  unfolding peakFigures refusedOf
   told (v-out o) = o
   told (l-out w o) = (w, o)
   told (n-out w x e o) = (w, x, e, o)
   told (all-in a) = a
 
   given : (w : Verdict) → When w v l endless n → figuresOf v l endless n .verdict ≡ w
-  unfolding figuresOf takenOf refusedOf
+  unfolding figuresOf peakFigures refusedOf
   given Taken a = ap (λ (f : Figures). f .verdict) (taken-is v l endless n a)
   given RefusedV o = simp (is-outside 1 topV v o)
   given RefusedL (w, o) = simp (not-outside 1 topV v w, is-outside 1 topL l o)
   given RefusedN (w, x, e, o) = simp (not-outside 1 topV v w, not-outside 1 topL l x, e, is-outside 1 topN n o)
 
-  outcome : Outcome v l endless n (figuresOf v l endless n)
+  outcome : Verdicts v l endless n (figuresOf v l endless n)
   outcome = record {
     exactly-when = λ w. (λ e. subst (λ (z : Verdict). When z v l endless n) e (told (cases v l endless n)), given w);
     refused = refused (cases v l endless n);
@@ -135,20 +135,6 @@ peak-0 v n = rw (zero-mul n) (pinned v 0 0 zero-le zero-le (λ h. lit< tt))
 slips-by : (v n : ℕ) (limit : Float) → lt limit (timeOf (peakOf v 0 false n) 0) ≡ false
 slips-by v n limit = rw (peak-0 v n, no-time) (nothing-below-nan limit)
 
--- ---- K14
-full : greatest 305175 (doubleUnit * 1000 * 15259) ≡ 305175
-full = whole (lit≤ tt)
-
-table : K14
-unfolding figuresOf takenOf distanceOf peakOf outside
-table = record {
-  n15259-peak = full;
-  n15259-distance = ap (λ (p : ℕ). p * p / (doubleUnit * 1000)) full;
-  n15258 = pinned 305175 (doubleUnit * 1000 * 15258) 305167 (lit≤ tt) (lit≤ tt) (λ h. lit< tt);
-  n1 = pinned 305175 (doubleUnit * 1000 * 1) 2470 (lit≤ tt) (lit≤ tt) (λ h. lit< tt);
-  l1-n1 = pinned 305175 (doubleUnit * 1 * 1) 78 (lit≤ tt) (lit≤ tt) (λ h. lit< tt);
-}
-
 pub ramp-claims : RampClaims
 ramp-claims = record {
   whole = λ v l endless n a. rw (taken-is v l endless n a) (whole-figures v l endless n a);
@@ -158,5 +144,4 @@ ramp-claims = record {
   l-0 = λ v endless n. l-0 v endless n (cases v 0 endless n);
   slips-by = slips-by;
   outcome = outcome;
-  table = table;
 }

@@ -67,20 +67,9 @@ When RefusedL v l endless n = Within 1 topV v × Outside 1 topL l
 When RefusedN v l endless n = Within 1 topV v × Within 1 topL l × (endless ≡ false) × Outside 1 topN n
 
 -- each verdict exactly when, and each but "taken" is a refusal
-pub record Outcome (v l : ℕ) (endless : Bool) (n : ℕ) (f : Figures) : Type 0 where
+pub record Verdicts (v l : ℕ) (endless : Bool) (n : ℕ) (f : Figures) : Type 0 where
   pub exactly-when : (verdict : Verdict) → (f .verdict ≡ verdict) ↔ When verdict v l endless n
   pub refused : (f .verdict ≡ Taken → ⊥) → Refused f
-
--- "K14 L 1000, V 305175": the figures at this V for an L and an N
-abbrev pub k14 : ℕ → ℕ → Figures
-k14 l n = figuresOf 305175 l false n
-
-pub record K14 : Type 0 where
-  pub n15259-peak : k14 1000 15259 .peak ≡ 305175
-  pub n15259-distance : k14 1000 15259 .distance ≡ 7629
-  pub n15258 : k14 1000 15258 .peak ≡ 305167
-  pub n1 : k14 1000 1 .peak ≡ 2470
-  pub l1-n1 : k14 1 1 .peak ≡ 78
 
 pub record RampClaims : Type 0 where
   -- the peak is the greatest and the only one, and the distance is rounded down
@@ -98,5 +87,4 @@ pub record RampClaims : Type 0 where
   -- 'Testing a computed time with "greater than": a not-a-number slips by': by every limit, were L 0 not refused
   pub slips-by : (v n : ℕ) (limit : Float) → lt limit (timeOf (peakOf v 0 false n) 0) ≡ false
   -- each verdict exactly when 01 says
-  pub outcome : (v l : ℕ) (endless : Bool) (n : ℕ) → Outcome v l endless n (figuresOf v l endless n)
-  pub table : K14
+  pub outcome : (v l : ℕ) (endless : Bool) (n : ℕ) → Verdicts v l endless n (figuresOf v l endless n)

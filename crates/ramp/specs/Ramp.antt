@@ -1,6 +1,7 @@
 -- The ramp figures, and their row of the table of outcomes. 01, "Ramp figures", "What comes back".
 -- Assumes nothing.
 use Prim.Native.Nat.{ℕ, _*_, _/_}
+use Prim.Native.String.{String}
 use mathlib.Core.Bool.{Bool, false, cond, not, _&&_}
 use lib.IntN.{pos, negsuc}
 use lib.Ieee as Ieee
@@ -35,8 +36,8 @@ unfoldable pub distanceOf : ℕ → ℕ → ℕ
 distanceOf peak l = peak * peak / (doubleUnit * l)
 
 -- the figures of a move that reaches a peak
-unfoldable pub takenOf : ℕ → ℕ → Figures
-takenOf peak l = record {
+unfoldable pub peakFigures : ℕ → ℕ → Figures
+peakFigures peak l = record {
   verdict = Taken;
   peak = peak;
   distance = distanceOf peak l;
@@ -58,11 +59,18 @@ figuresOf v l endless n =
     cond (outside 1 topV v) (refusedOf RefusedV)
     (cond (outside 1 topL l) (refusedOf RefusedL)
     (cond (not endless && outside 1 topN n) (refusedOf RefusedN)
-    (takenOf (peakOf v l endless n) l)))
+    (peakFigures (peakOf v l endless n) l)))
 
 -- the number of each name for C: 0 taken, 1 V, 2 L, 3 N outside its range
-abbrev pub codeOf : Verdict → ℕ
-codeOf Taken = 0
-codeOf RefusedV = 1
-codeOf RefusedL = 2
-codeOf RefusedN = 3
+abbrev pub verdictNumber : Verdict → ℕ
+verdictNumber Taken = 0
+verdictNumber RefusedV = 1
+verdictNumber RefusedL = 2
+verdictNumber RefusedN = 3
+
+-- and the name: "V, then L, then N outside the ranges"
+abbrev pub verdictName : Verdict → String
+verdictName Taken = "taken"
+verdictName RefusedV = "V outside its range"
+verdictName RefusedL = "L outside its range"
+verdictName RefusedN = "N outside its range"

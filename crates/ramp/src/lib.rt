@@ -2,7 +2,7 @@ ghost use mathlib.Core.Path.{_≡_};
 ghost use Prim.Native.Nat.{_+_, _*_, _/_, _^_, min, _≤_, _<_};
 ghost use Rattle.ramp.specs.Ranges.{topV, topL, topN, outside, Within};
 ghost use Rattle.ramp.specs.Peak.{doubleUnit, greatest};
-ghost use Rattle.ramp.specs.Ramp.{codeOf, refusedOf, takenOf, figuresOf};
+ghost use Rattle.ramp.specs.Ramp.{verdictNumber, refusedOf, peakFigures, figuresOf};
 ghost use Rattle.ramp.specs.Claims.{RampClaims};
 
 // Whether the figures stand, or which of V, L and N is outside its range.
@@ -61,7 +61,7 @@ pub fn ramp(v: u32, l: u32, endless: bool, n: u32) -> Figures
 
 // The number of a verdict for C.
 pub fn code(verdict: Verdict) -> u32
-    ensures { λ r. ⌜ r ≡ codeOf verdict ⌝ }
+    ensures { λ r. ⌜ r ≡ verdictNumber verdict ⌝ }
 {
     match verdict {
         Verdict::Taken => 0,
@@ -100,7 +100,7 @@ fn refused(verdict: Verdict) -> Figures
 // The figures of a move that reaches a peak.
 fn taken(peak: u32, l: u32) -> Figures
     requires { ⌜ Within 1 topV peak × Within 1 topL l ⌝ }
-    ensures { λ r. ⌜ r ≡ takenOf peak l ⌝ }
+    ensures { λ r. ⌜ r ≡ peakFigures peak l ⌝ }
 {
     let speed = peak as f64;
     let acceleration = (l as f64) * UNIT;

@@ -1,6 +1,5 @@
 -- A sound unit never goes astray. Assumes nothing.
 use Prim.Native.Nat.{ℕ, _≤_}
-use mathlib.Core.Path.{_≡_}
 use mathlib.Core.Bool.{Bool, true, false, false≢true}
 use native.Mathlib.Omega.{arith}
 use Rattle.lines.proofs.LoopLaws.{lawful}
@@ -9,14 +8,14 @@ use Rattle.flow.proofs.FlowLaws.{depth-most, exactly, no-fault, begin-goes, end
 use Rattle.motor.specs.Motion.{room, counted, reported}
 use Rattle.motor.proofs.MotorLaws.{nothing-cut}
 use Rattle.motor.proofs.RoomLaws.{counted-up, counted-down}
-use Rattle.turns.specs.Ends.{Strays, badRead, tooDeep, noneOpen, skipsBad, skipsEnd}
+use Rattle.turns.specs.Ends.{Strays, bad-read, too-deep, none-open, skips-bad, skips-end}
 use Rattle.drive.specs.Unit.{Drive}
 use Rattle.runs.specs.Reach.{textOf}
-use Rattle.runs.specs.Claims.{Counted, NeverAstray}
+use Rattle.runs.specs.Claims.{CountedWhole, NeverAstray}
 use Rattle.runs.proofs.SoundLaws.{SoundUnit}
 
 -- what is counted is counted whole where there is room for it
-counted-whole : (up : Bool) (p steps : ℕ) → steps ≤ room up p → Counted up p steps (counted up p steps)
+counted-whole : (up : Bool) (p steps : ℕ) → steps ≤ room up p → CountedWhole up p steps (counted up p steps)
 unfolding room
 counted-whole true p steps h = counted-up p steps h
 counted-whole false p steps h = omega (arith, counted-down p steps h)
@@ -24,11 +23,11 @@ counted-whole false p steps h = omega (arith, counted-down p steps h)
 module _ (u : Drive) (h : SoundUnit u) where
   -- a checked text comes to none of it
   pub not-astray : (sample : ℕ) → Strays sample (textOf u) (u .core) → ⊥
-  not-astray sample (badRead f r) = no-fault (h .flow) (r .stands)
-  not-astray sample (tooDeep next r q) = false≢true (rw (begin-goes (h .flow) (r .stands)) at q)
-  not-astray sample (noneOpen n next r q) = false≢true (rw (end-goes (h .flow) (r .stands)) at q)
-  not-astray sample (skipsBad digits next f r l e) = rw (r .stands, e) at (lawful (h .flow .checked) (h .flow .place))
-  not-astray sample (skipsEnd digits next r l e) = rw (r .stands, e) at (lawful (h .flow .checked) (h .flow .place))
+  not-astray sample (bad-read f r) = no-fault (h .flow) (r .stands)
+  not-astray sample (too-deep next r q) = false≢true (rw (begin-goes (h .flow) (r .stands)) at q)
+  not-astray sample (none-open n next r q) = false≢true (rw (end-goes (h .flow) (r .stands)) at q)
+  not-astray sample (skips-bad digits next f r l e) = rw (r .stands, e) at (lawful (h .flow .checked) (h .flow .place))
+  not-astray sample (skips-end digits next r l e) = rw (r .stands, e) at (lawful (h .flow .checked) (h .flow .place))
 
   pub never-astray : NeverAstray u
   unfolding room reported

@@ -4,13 +4,12 @@ use mathlib.Core.Path.{_≡_, refl, sym, subst, _∙_}
 use mathlib.Core.List.{List}
 use mathlib.Core.Bool.{true, false}
 use Rattle.commands.specs.Table.{oneOf}
-use Rattle.lines.specs.declared.Immediate.{Immediate}
 use Rattle.lines.specs.declared.Immediate.the-variants.{Terminate}
 use Rattle.lines.specs.declared.Body.{Body}
 use Rattle.lines.specs.Bodies.{bodyOf}
 use Rattle.turns.specs.declared.Core.{Core}
 use Rattle.turns.specs.Turns.{ended}
-use Rattle.turns.specs.Ends.{textEnds, notClear, notCut, badSlot, unknown, leavesRange, rangeEnds}
+use Rattle.turns.specs.Ends.{text-ends, not-clear, not-cut, bad-slot, unknown, leaves-range, range-ends}
 use Rattle.turns.proofs.MoveLaws.{clash}
 use Rattle.turns.proofs.TurnLaws.{EndedBy, cause, straying, turn-only, turn-each}
 use Rattle.drive.specs.Unit.{Drive}
@@ -21,7 +20,7 @@ use Rattle.drive.specs.Calls.{receivedBy, bodyBy}
 use Rattle.obeying.specs.Deeds.{Obeys, refuses, tells, stores, clears, stops, resumes, speeds, again, loads}
 use Rattle.obeying.proofs.DeedLaws.{body-does}
 use Rattle.runs.specs.Reach.{Call, Feed, Turn, after, textOf}
-use Rattle.runs.specs.Causes.{Made, Cause, terminate, inTurn, causeCodes}
+use Rattle.runs.specs.Causes.{Made, Cause, terminate, in-turn, causeCodes}
 use Rattle.runs.specs.Claims.{EndsExactly}
 use Rattle.runs.proofs.SoundLaws.{SoundUnit}
 use Rattle.runs.proofs.CallLaws.{turn-made, turn-cases, feed-cases, feed-done, framed}
@@ -73,7 +72,7 @@ module _ (u : Drive) (h : SoundUnit u) (run : u .core .running ≡ true) where
       (λ a q. clash run q) (λ m q. go m (turn-only sample ms steps (u .text) image (u .core) run q))
     where
       go : {k : ℕ} → Made u sample steps image → EndedBy sample steps (textOf u) image (u .core) k → Cause u (Turn sample ms steps image) k
-      go m (cause e) = inTurn m e
+      go m (cause e) = in-turn m e
       go m (straying s e) = absurd (not-astray u h sample s)
 
   call-only : (c : Call) → after c u .core .running ≡ false → Cause u c (after c u .core .code)
@@ -87,7 +86,7 @@ module _ (u : Drive) (h : SoundUnit u) (run : u .core .running ≡ true) where
       let g = receivedBy u bytes in
       let e = body-ends (u .core) run (bodyBy u bytes) (t .is-T) in
       rw (d, framed (g .frame) (bodyBy u bytes) (u .core) (t .frame-ours)) (e .0, e .1 ∙ h .code-0 run)
-  cause-ends c k (inTurn {sample} {ms} {steps} {image = image} m e) =
+  cause-ends c k (in-turn {sample} {ms} {steps} {image = image} m e) =
       subst (λ (v : Drive). (v .core .running ≡ false) × (v .core .code ≡ k)) (sym (turn-made u sample ms steps image m))
       (turn-each sample ms steps (u .text) image (u .core) k e run)
 
@@ -95,13 +94,13 @@ module _ (u : Drive) (h : SoundUnit u) (run : u .core .running ≡ true) where
   cause-code : (c : Call) (k : ℕ) → Cause u c k → oneOf causeCodes k ≡ true
   unfolding oneOf
   cause-code c k (terminate t) = refl
-  cause-code c k (inTurn m (textEnds r)) = rw (h .code-0 run)
-  cause-code c k (inTurn m (notClear left n e f l)) = refl
-  cause-code c k (inTurn m (notCut left e f l)) = refl
-  cause-code c k (inTurn m (badSlot slot next r q)) = refl
-  cause-code c k (inTurn m (unknown a next r v q)) = refl
-  cause-code c k (inTurn m (leavesRange a next r q l)) = refl
-  cause-code c k (inTurn m (rangeEnds up left e f z)) = refl
+  cause-code c k (in-turn m (text-ends r)) = rw (h .code-0 run)
+  cause-code c k (in-turn m (not-clear left n e f l)) = refl
+  cause-code c k (in-turn m (not-cut left e f l)) = refl
+  cause-code c k (in-turn m (bad-slot slot next r q)) = refl
+  cause-code c k (in-turn m (unknown a next r v q)) = refl
+  cause-code c k (in-turn m (leaves-range a next r q l)) = refl
+  cause-code c k (in-turn m (range-ends up left e f z)) = refl
 
 pub ends-exactly : (u : Drive) → SoundUnit u → (c : Call) → EndsExactly u c
 ends-exactly u h c = record {

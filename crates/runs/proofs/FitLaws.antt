@@ -5,13 +5,12 @@ use mathlib.Core.Path.{_≡_, refl}
 use mathlib.Core.List.{List, []}
 use native.Mathlib.Omega.{arith}
 use lib.ListN.{length, take, length-take}
-use Rattle.parts.specs.Parts.{paddedText}
+use Rattle.parts.specs.Parts.{paddedText, mostBytes}
 use Rattle.parts.proofs.Laws.{cases, length-padded}
 use Rattle.digits.specs.Operand.{widest}
-use Rattle.lines.specs.Texts.{mostBytes}
 use Rattle.image.specs.Image.{slotText}
 use Rattle.motor.specs.declared.Motor.{Motor}
-use Rattle.motor.specs.Motion.{fresh, reported, stopped}
+use Rattle.motor.specs.Motion.{freshMotor, reported, stopped}
 use Rattle.turns.specs.declared.setting.Settings.{Settings}
 use Rattle.turns.specs.declared.Core.{Core}
 use Rattle.turns.specs.declared.Stepped.{Stepped}
@@ -21,8 +20,8 @@ use Rattle.obeying.specs.declared.Obeyed.{Obeyed}
 use Rattle.obeying.specs.Obeying.{loadedAs, textWritten}
 use Rattle.drive.specs.Unit.{Drive}
 use Rattle.drive.specs.Calls.{mostSample}
-use Rattle.motor.specs.Deeds.{Goes-on, same, waits, less, places}
-use Rattle.keeping.specs.Deeds.{Sets, Does, goes, ends, Steps, keeps-text, enters-text}
+use Rattle.motor.specs.Deeds.{MotorLeads, same, waits, less, places}
+use Rattle.keeping.specs.Deeds.{SettingsLead, Does, goes, ends, Steps, keeps-text, enters-text}
 use Rattle.motor.specs.Deeds.{codeValues}
 use Rattle.obeying.specs.Deeds.{Obeys, refuses, tells, stores, clears, stops, resumes, speeds, again, loads}
 use Rattle.keeping.proofs.SettingLaws.{speed-fits, speed-most, endless-fits, correction-fits, exponent-fits}
@@ -48,16 +47,16 @@ padded-bytes t = length-padded 256 (take 256 t) (omega (arith, length-take 256 t
 
 -- "Defaults: V 305175, .. o 1500, .. last sample 15"
 fresh-fit : Fit freshCore
-unfolding freshCore defaults fresh
+unfolding freshCore defaults freshMotor
 fresh-fit = record { settings = record { speed = omega arith; correction = omega arith; exponent = omega arith }; sample = omega arith; endless = omega arith; code = omega arith }
 
 -- ---- the deeds
 
-settings-fit : {s r : Settings} → FitSettings s → Sets s r → FitSettings r
+settings-fit : {s r : Settings} → FitSettings s → SettingsLead s r → FitSettings r
 settings-fit f d = record { speed = speed-fits d (f .speed); correction = correction-fits d (f .correction); exponent = exponent-fits d (f .exponent) }
 
 -- the sample stays that of the turn
-sample-same : {steps : ℕ} {m n : Motor} → Goes-on steps m n → n .sample ≡ m .sample
+sample-same : {steps : ℕ} {m n : Motor} → MotorLeads steps m n → n .sample ≡ m .sample
 sample-same (same e) = refl
 sample-same (waits w r) = refl
 sample-same (less up left e) = refl

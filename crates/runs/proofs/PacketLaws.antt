@@ -1,36 +1,34 @@
 -- What a sound unit tells may be the data of a packet, so the packet that a feed call writes is read back. Assumes nothing.
-use Prim.Native.Nat.{ℕ, zero, suc, _+_, _≤_, _<_, min}
+use Prim.Native.Nat.{ℕ, zero, suc, _+_, _≤_, _<_}
 use mathlib.Core.Path.{_≡_, refl, sym, subst}
-use mathlib.Core.List.{List, [], _∷_}
+use mathlib.Core.List.{List, []}
 use mathlib.Core.Bool.{true, not, and-eq-true-iff}
 use native.Mathlib.Omega.{arith}
-use lib.Dec.{ltb, leb}
+use lib.Dec.{leb}
 use lib.ListN.{length, take, drop, length-take}
 use lib.Seq.{take-append-seam}
-use lib.Pow.{pow-mono}
-use borrow.Author.Tests.{leb-true, le-leb, ltb-true, le-ltb}
-use Rattle.parts.specs.Parts.{putIn}
+use borrow.Author.Tests.{leb-true, le-leb, le-ltb}
+use Rattle.parts.specs.Parts.{putIn, mostBytes}
 use Rattle.parts.proofs.Laws.{cases, put-in-room, put-front}
-use Rattle.digits.specs.Operand.{widest}
 use Rattle.answers.specs.Packet.{statusOf, mostData, packetBytes}
 use Rattle.answers.specs.Reading.{allPrintable, goodData}
 use Rattle.answers.proofs.ReadBack.{reads-back, number-good}
-use Rattle.answers.proofs.OemLaws.{reads-back-oem}
+use Rattle.answers.proofs.Framing.{plain, oem}
 use Rattle.frames.specs.declared.Framing.{Framing}
 use Rattle.turns.specs.declared.Core.{Core}
 use Rattle.turns.specs.Turns.{started, ended}
 use Rattle.drive.specs.Unit.{Drive}
 use Rattle.obeying.specs.declared.Obeyed.{Obeyed}
-use Rattle.lines.specs.Texts.{mostBytes}
 use Rattle.obeying.specs.declared.Tell.{Tell}
 use Rattle.obeying.specs.Obeying.{stepSize, dataOf, placeTold, loadedAs, textWritten}
 use Rattle.drive.specs.Calls.{answerTo, receivedBy, bodyBy, obeyedBy, textThen, feedOf}
-use Rattle.runs.specs.Packets.{Answers, answeredBy, toldBy, ReadIn, ReadBack}
+use Rattle.runs.specs.Packets.{IsAnswered, answeredBy, toldBy, ReadIn, ReadBack}
 use Rattle.runs.proofs.SoundLaws.{Sound, SoundUnit}
 use Rattle.runs.proofs.CallLaws.{feed-done}
 use Rattle.runs.proofs.PrintLaws.{checked-printable}
 use Rattle.motor.specs.Deeds.{codeValues}
-use Rattle.obeying.specs.Deeds.{Tells, nothingTold, textTold, positionTold, speedTold, sampleTold, endlessTold, stepSizeTold, correctionTold, Obeys, refuses, tells, stores, clears, stops, resumes, speeds, again, loads}
+use Rattle.obeying.specs.Deeds.{Tells, nothing-told, text-told, position-told, speed-told, sample-told, endless-told, step-size-told, correction-told, Obeys, refuses, tells, stores, clears, stops, resumes, speeds, again, loads}
+use Rattle.obeying.proofs.SizeLaws.{step-size-fits}
 use Rattle.drive.proofs.AnswerLaws.{packet-fits}
 use Rattle.drive.proofs.FeedLaws.{frame-does}
 use Rattle.runs.proofs.FitLaws.{FitIn, FitUnit}
@@ -50,11 +48,6 @@ text-good : (t : List ℕ) → length t ≤ mostData → allPrintable t ≡ true
 unfolding goodData
 text-good t l p = rw (le-leb (length t) mostData l) p
 
--- "`?6` .. `j`"
-size-most : (e : ℕ) → stepSize e ≤ widest
-unfolding stepSize
-size-most e = let l : min e 8 ≤ 8 = omega arith in omega (arith, pow-mono l)
-
 -- ---- a frame obeyed
 
 module _ (c : Core) (text : List ℕ) (s : Sound (take (c .flow .length) text) c) (h : FitIn text c) where
@@ -63,14 +56,14 @@ module _ (c : Core) (text : List ℕ) (s : Sound (take (c .flow .length) text) c
   current-good = text-good _ (omega (arith, length-take (c .flow .length) text, h .1)) (checked-printable _ (s .flow .checked))
 
   tells-good : {t : Tell} → Tells c t → goodData (dataOf t (c .flow .length) text) ≡ true
-  tells-good nothingTold = nothing-good
-  tells-good textTold = current-good
-  tells-good positionTold = number-good (c .motor .position) (omega (arith, s .motor .inRange))
-  tells-good speedTold = number-good (c .settings .speed) (h .0 .settings .speed)
-  tells-good sampleTold = number-good (c .motor .sample) (omega (arith, h .0 .sample))
-  tells-good endlessTold = number-good (c .endless) (h .0 .endless)
-  tells-good stepSizeTold = number-good (stepSize (c .settings .exponent)) (size-most (c .settings .exponent))
-  tells-good correctionTold = number-good (c .settings .correction) (h .0 .settings .correction)
+  tells-good nothing-told = nothing-good
+  tells-good text-told = current-good
+  tells-good position-told = number-good (c .motor .position) (omega (arith, s .motor .inRange))
+  tells-good speed-told = number-good (c .settings .speed) (h .0 .settings .speed)
+  tells-good sample-told = number-good (c .motor .sample) (omega (arith, h .0 .sample))
+  tells-good endless-told = number-good (c .endless) (h .0 .endless)
+  tells-good step-size-told = number-good (stepSize (c .settings .exponent)) (step-size-fits (c .settings .exponent))
+  tells-good correction-told = number-good (c .settings .correction) (h .0 .settings .correction)
 
   -- the place of a fault
   place-good : (p : ℕ) → p ≤ mostBytes + 1 → goodData (dataOf (placeTold p) (c .flow .length) text) ≡ true
@@ -109,10 +102,10 @@ answer-most g o text t =
 answer-reads : (g : Framing) (o : Obeyed) (text : List ℕ) → Tellable o text
     → ReadIn g (answerTo g o text) (not (o .core .running)) (o .code) (dataOf (o .tell) (o .core .flow .length) text)
 unfolding answerTo
-answer-reads Framing.Plain o text t = reads-back (not (o .core .running)) (o .code) (dataOf (o .tell) (o .core .flow .length) text) (t .0)
-answer-reads (Framing.Oem q) o text t = reads-back-oem (not (o .core .running)) (o .code) (dataOf (o .tell) (o .core .flow .length) text) (t .0)
+answer-reads Framing.Plain o text t = reads-back plain (not (o .core .running)) (o .code) (dataOf (o .tell) (o .core .flow .length) text) (t .0)
+answer-reads (Framing.Oem q) o text t = reads-back oem (not (o .core .running)) (o .code) (dataOf (o .tell) (o .core .flow .length) text) (t .0)
 
-module _ (u : Drive) (bytes image buffer : List ℕ) (a : Answers u bytes image buffer) where
+module _ (u : Drive) (bytes image buffer : List ℕ) (a : IsAnswered u bytes image buffer) where
   abbrev left : List ℕ
   left = textThen (bodyBy u bytes) (obeyedBy u bytes) (u .text)
 

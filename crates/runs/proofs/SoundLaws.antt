@@ -7,10 +7,9 @@ use mathlib.Core.Bool.{true, false≢true}
 use native.Mathlib.Omega.{arith}
 use lib.ListN.{length, take}
 use lib.Seq.{take-all, length-take-le}
-use Rattle.parts.specs.Parts.{paddedText}
+use Rattle.parts.specs.Parts.{paddedText, mostBytes}
 use Rattle.parts.proofs.Laws.{cases, take-padded}
 use Rattle.commands.specs.Table.{top}
-use Rattle.lines.specs.Texts.{mostBytes}
 use Rattle.lines.specs.Loops.{Checked}
 use Rattle.lines.proofs.TakenLaws.{text-checked}
 use Rattle.image.specs.Image.{slotText}
@@ -18,7 +17,7 @@ use Rattle.image.proofs.HeldLaws.{empty-good, text-passes, text-fits}
 use Rattle.flow.specs.declared.Flow.{Flow}
 use Rattle.flow.specs.Flow.{begun}
 use Rattle.flow.proofs.FlowLaws.{FlowOk, begun-ok, gone-ok, skipped-ok, opened-ok, closed-ok}
-use Rattle.motor.specs.Motion.{reported, answered}
+use Rattle.motor.specs.Motion.{answered}
 use Rattle.motor.proofs.MotorLaws.{MotorOk, Counted, Within, fresh-ok, resumed-ok, stopped-ok, reported-ok, answered-ok, stopped-within, on-within}
 use Rattle.turns.specs.declared.Core.{Core}
 use Rattle.turns.specs.declared.Stepped.{Stepped}
@@ -27,10 +26,9 @@ use Rattle.obeying.specs.declared.Obeyed.{Obeyed}
 use Rattle.obeying.specs.Obeying.{loadedAs, textWritten}
 use Rattle.drive.specs.Unit.{Drive}
 use Rattle.motor.specs.Deeds.{same}
-use Rattle.keeping.specs.Deeds.{Leads, here, on, over, opens-loop, ends-loop, Does, goes, ends, Steps, keeps-text, enters-text}
+use Rattle.keeping.specs.Deeds.{FlowLeads, here, on, over, opens-loop, ends-loop, Does, goes, ends, Steps, keeps-text, enters-text}
 use Rattle.obeying.specs.Deeds.{Obeys, refuses, tells, stores, clears, stops, resumes, speeds, again, loads}
 use Rattle.keeping.specs.Kept.{Kept}
-use Rattle.runs.specs.Reach.{textOf}
 
 -- what holds of a core over the current text t before each call
 pub record Sound (t : List ℕ) (c : Core) : Type 0 where
@@ -97,7 +95,7 @@ record Amid (t : List ℕ) (c : Core) : Type 0 where
   pub motor : Within (c .motor)
   pub code-0 : c .running ≡ true → c .code ≡ 0
 
-leads-ok : {t : List ℕ} {f g : Flow} → FlowOk t f → Leads t f g → FlowOk t g
+leads-ok : {t : List ℕ} {f g : Flow} → FlowOk t f → FlowLeads t f g → FlowOk t g
 leads-ok h here = h
 leads-ok h (on e q) = gone-ok h e q
 leads-ok h (over e q) = skipped-ok h e q

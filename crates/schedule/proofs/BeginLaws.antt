@@ -25,7 +25,7 @@ use Rattle.runs.specs.Reach.{Call, Feed, Turn, after, textOf}
 use Rattle.runs.proofs.SoundLaws.{text-kept}
 use Rattle.runs.proofs.CallLaws.{feed-cases, turn-cases}
 use Rattle.runs.proofs.CommandLaws.{turned}
-use Rattle.schedule.specs.Ran.{Takes, takes, Begins}
+use Rattle.schedule.specs.Ran.{TakesCommand, takes, Begins}
 use Rattle.schedule.specs.Claims.{Entered}
 
 -- where it runs, it is at its beginning
@@ -53,7 +53,7 @@ jumped-there i text image c =
 
 -- "`e` makes the slot's text the current text .. and begins it"
 pub enters : {i sample ms steps : ℕ} {image : List ℕ} (v : Drive) → v .core .running ≡ true
-    → Takes v (Jump i) sample (Turn sample ms steps image) → Entered (slotText image i) (after (Turn sample ms steps image) v)
+    → TakesCommand v (Jump i) sample (Turn sample ms steps image) → Entered (slotText image i) (after (Turn sample ms steps image) v)
 unfolding commandTaken
 enters {i} {sample} {ms} {steps} {image} v h (takes n m r) =
     let x = turned v h sample ms steps image m (Jump i) n r in

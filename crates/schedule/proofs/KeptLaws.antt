@@ -13,7 +13,7 @@ use Rattle.motor.specs.Motion.{reported, served, isFree}
 use Rattle.turns.specs.declared.Core.{Core}
 use Rattle.turns.specs.declared.Enter.the-variants.{Stay}
 use Rattle.turns.specs.declared.Stepped.{Stepped}
-use Rattle.turns.specs.Turns.{withMotor, ended, astray, moved, readTaken, running, stepOf, turnCore, textAfter}
+use Rattle.turns.specs.Turns.{withMotor, ended, astray, moved, readTaken, stepOf, turnCore, textAfter}
 use Rattle.turns.specs.Ends.{Reads}
 use Rattle.turns.proofs.TurnLaws.{at-command, at-wait}
 use Rattle.drive.specs.Unit.{Drive}
@@ -26,7 +26,7 @@ use Rattle.keeping.proofs.TurnLaws.{free}
 use Rattle.runs.specs.Reach.{Call, Feed, Turn, after, textOf}
 use Rattle.runs.specs.Causes.{Made}
 use Rattle.runs.proofs.CallLaws.{feed-cases, turn-cases}
-use Rattle.schedule.specs.Ran.{Takes, takes}
+use Rattle.schedule.specs.Ran.{TakesCommand, takes}
 
 -- the text and the flow are those of u
 abbrev pub Same : List ℕ → Core → List ℕ → Core → Type 0
@@ -77,7 +77,7 @@ step-stays sample ms steps t image c h never = go (isFree (c .motor .wait)) refl
 
 -- ---- a call
 
-pub kept : (u : Drive) (c : Call) → u .core .running ≡ true → ((d : Command) (s : ℕ) → Takes u d s c → ⊥) → Same (u .text) (u .core) (after c u .text) (after c u .core)
+pub kept : (u : Drive) (c : Call) → u .core .running ≡ true → ((d : Command) (s : ℕ) → TakesCommand u d s c → ⊥) → Same (u .text) (u .core) (after c u .text) (after c u .core)
 unfolding turnCore
 kept u (Feed bytes image buffer) h never =
     feed-cases u bytes image buffer (Same (u .text) (u .core)) (refl, refl) (λ d. obeys-same (u .text) h (frame-does (receivedBy u bytes .frame) (bodyBy u bytes) (u .core)))

@@ -20,20 +20,15 @@ use Rattle.turns.specs.declared.Enter.{Enter}
 use Rattle.turns.specs.Turns.{withMotor, textAfter}
 use Rattle.turns.specs.Ends.{Reads}
 use Rattle.drive.specs.Unit.{Drive}
-use Rattle.runs.specs.Reach.{Call, Turn, after, Reached, called, textOf}
+use Rattle.runs.specs.Reach.{Call, Turn, after, Reached, textOf}
 use Rattle.runs.specs.Causes.{Made}
 use Rattle.runs.proofs.ReachLaws.{reached-sound}
 use Rattle.runs.proofs.CommandLaws.{turned}
-use Rattle.schedule.specs.Ran.{Takes, takes, Begins, Ran, none, taking, other}
-use Rattle.schedule.specs.Claims.{NoJump, InText, RunsAs, Counted}
+use Rattle.schedule.specs.Ran.{TakesCommand, takes, Begins, Ran, none, taking, other}
+use Rattle.schedule.specs.Claims.{NoJump, InText, RunsAs, RunsCounted}
 use Rattle.schedule.proofs.KeptLaws.{kept}
 use Rattle.schedule.proofs.TakenLaws.{command-goes}
 use Rattle.schedule.proofs.BeginLaws.{enters}
-
-pub reached-ran : {u v : Drive} {xs : List Step} → Reached u → Ran u xs v → Reached v
-reached-ran r none = r
-reached-ran r (taking {c = c} s h k) = called c (reached-ran r s)
-reached-ran r (other c s h k) = called c (reached-ran r s)
 
 -- v is in the text t, and has taken xs of the course `whole`
 pub record Still (t : List ℕ) (whole : Course) (xs : List Step) (v : Drive) : Type 0 where
@@ -41,7 +36,7 @@ pub record Still (t : List ℕ) (whole : Course) (xs : List Step) (v : Drive) : 
   pub ok : FlowOk t (v .core .flow)
   pub took : Taken t whole xs (v .core .flow)
 
-still-other : {t : List ℕ} {whole : Course} {xs : List Step} (v : Drive) (c : Call) → v .core .running ≡ true → ((d : Command) (s : ℕ) → Takes v d s c → ⊥)
+still-other : {t : List ℕ} {whole : Course} {xs : List Step} (v : Drive) (c : Call) → v .core .running ≡ true → ((d : Command) (s : ℕ) → TakesCommand v d s c → ⊥)
     → Still t whole xs v → Still t whole xs (after c v)
 still-other {t} {whole} {xs} v c h k s =
     let q = kept v c h k in
@@ -76,11 +71,11 @@ turn-still {whole} {xs} v sample ms steps image d n h m r j s =
 own : {t : List ℕ} {whole : Course} {xs : List Step} (v : Drive) → Still t whole xs v → Still (textOf v) whole xs v
 own {t} {whole} {xs} v s = subst (λ (l : List ℕ). Still l whole xs v) (sym (s .text)) s
 
-still-taking : {t : List ℕ} {whole : Course} {xs : List Step} (v : Drive) {d : Command} {s : ℕ} {c : Call} → v .core .running ≡ true → Takes v d s c → NoJump d
+still-taking : {t : List ℕ} {whole : Course} {xs : List Step} (v : Drive) {d : Command} {s : ℕ} {c : Call} → v .core .running ≡ true → TakesCommand v d s c → NoJump d
     → Still t whole xs v → Still t whole (xs ++ (step d s ∷ [])) (after c v)
 still-taking {t} {whole} {xs} v {d} {s} {c} h k j y = subst (λ (l : List ℕ). Still l whole (xs ++ (step d s ∷ [])) (after c v)) (y .text) (go s c k (own v y))
   where
-    go : (s : ℕ) (b : Call) → Takes v d s b → Still (textOf v) whole xs v → Still (textOf v) whole (xs ++ (step d s ∷ [])) (after b v)
+    go : (s : ℕ) (b : Call) → TakesCommand v d s b → Still (textOf v) whole xs v → Still (textOf v) whole (xs ++ (step d s ∷ [])) (after b v)
     go s b (takes {sample} {ms} {steps} {image} n m r) y = turn-still v sample ms steps image d n h m r j y
 
 -- once it is taken it is of the run, `e` too
@@ -92,11 +87,11 @@ next-runs t whole os xs s (Skip i) n y = y .runs
 next-runs t whole os xs s (Jump i) n y = y
 next-runs t whole os xs s (Plain a) n y = stands-now y
 
-taken-runs : {t : List ℕ} {whole : Course} {xs : List Step} (v : Drive) {d : Command} {s : ℕ} {c : Call} → Takes v d s c → Still t whole xs v
+taken-runs : {t : List ℕ} {whole : Course} {xs : List Step} (v : Drive) {d : Command} {s : ℕ} {c : Call} → TakesCommand v d s c → Still t whole xs v
     → Runs whole false (xs ++ (step d s ∷ []))
 taken-runs {t} {whole} {xs} v {d} {s} {c} k y = go s c k (own v y)
   where
-    go : (s : ℕ) (b : Call) → Takes v d s b → Still (textOf v) whole xs v → Runs whole false (xs ++ (step d s ∷ []))
+    go : (s : ℕ) (b : Call) → TakesCommand v d s b → Still (textOf v) whole xs v → Runs whole false (xs ++ (step d s ∷ []))
     go s b (takes n m r) y =
         next-runs (textOf v) whole (loopsOf (v .core .flow)) (xs ++ (step d s ∷ [])) s d n (next-stands (textOf v) whole (v .core .flow .at) s (r .stands) (y .took))
 
@@ -156,7 +151,7 @@ steady-ran {u} r b y (taking {v = v} {xs = xs} {d = d} {s = s} z h k) =
     text-split (commandsOf (xs ++ (step d s ∷ []))) (p .0) (rw (p .1) at (steady-text (courseIn (textOf u)) y)) .0
 steady-ran r b y (other c s h k) = steady-ran r b y s
 
-pub counted : {u v : Drive} {xs : List Step} → Reached u → Begins u → Steady (courseIn (textOf u)) → Ran u xs v → Counted (textOf u) xs v
+pub counted : {u v : Drive} {xs : List Step} → Reached u → Begins u → Steady (courseIn (textOf u)) → Ran u xs v → RunsCounted (textOf u) xs v
 unfolding commandsIn
 counted {u} {v} {xs} r b y s =
     let q = runs-as r b s (steady-ran r b y s) in

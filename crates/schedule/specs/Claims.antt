@@ -16,7 +16,7 @@ use Rattle.drive.specs.Calls.{startOf}
 use Rattle.runs.specs.Reach.{Call, Turn, after, Reached, textOf}
 use Rattle.runs.specs.Causes.{Made}
 use Rattle.courses.specs.Meaning.{Step, step, Runs, commandsOf, Steady, unrolled, courseIn, commandsIn}
-use Rattle.schedule.specs.Ran.{Takes, Begins, Ran}
+use Rattle.schedule.specs.Ran.{TakesCommand, Begins, Ran}
 
 -- no `e` among the commands: all are of one text
 abbrev pub NoJump : Command → Type 0
@@ -52,13 +52,13 @@ pub record RunsAs (t : List ℕ) (xs : List Step) (v : Drive) : Type 0 where
   -- where it stands at the end of its text it has gone through its course
   pub whole : Reads t (v .core) End → Runs (courseIn t) true xs
   -- `e` is taken in its course too
-  pub leaves : {i s : ℕ} {k : Call} → v .core .running ≡ true → Takes v (Jump i) s k → Runs (courseIn t) false (xs ++ (step (Jump i) s ∷ []))
+  pub leaves : {i s : ℕ} {k : Call} → v .core .running ≡ true → TakesCommand v (Jump i) s k → Runs (courseIn t) false (xs ++ (step (Jump i) s ∷ []))
   -- and "makes the slot's text the current text .. and begins it", where it does not stop the run
-  pub enters : {i sample ms steps : ℕ} {image : List ℕ} → v .core .running ≡ true → Takes v (Jump i) sample (Turn sample ms steps image)
+  pub enters : {i sample ms steps : ℕ} {image : List ℕ} → v .core .running ≡ true → TakesCommand v (Jump i) sample (Turn sample ms steps image)
       → Entered (slotText image i) (after (Turn sample ms steps image) v)
 
 -- the same in a text without `S`, `e` and `G0`
-pub record Counted (t : List ℕ) (xs : List Step) (v : Drive) : Type 0 where
+pub record RunsCounted (t : List ℕ) (xs : List Step) (v : Drive) : Type 0 where
   pub left : List Command
   pub in-order : unrolled (courseIn t) ≡ commandsOf xs ++ left
   pub whole : Reads t (v .core) End → commandsOf xs ≡ unrolled (courseIn t)
@@ -75,7 +75,7 @@ pub record ScheduleClaims : Type 0 where
   pub begins : (u : Drive) (c : Call) → u .core .running ≡ false → after c u .core .running ≡ true → Begins (after c u)
   -- and goes as its course says
   pub runs-as : {u v : Drive} {xs : List Step} → Reached u → Begins u → Ran u xs v → InText (commandsOf xs) → RunsAs (textOf u) xs v
-  pub counted : {u v : Drive} {xs : List Step} → Reached u → Begins u → Steady (courseIn (textOf u)) → Ran u xs v → Counted (textOf u) xs v
+  pub counted : {u v : Drive} {xs : List Step} → Reached u → Begins u → Steady (courseIn (textOf u)) → Ran u xs v → RunsCounted (textOf u) xs v
   -- a plain command keeps the flow, also where it stops the run: the one statement that knows each of them, so one command more is one case more of its proof
   pub plain-goes-on : (u : Drive) (a : Act) (next sample ms steps : ℕ) (image : List ℕ) → u .core .running ≡ true → Made u sample steps image
       → Reads (textOf u) (u .core) (At (Plain a) next) → GoesOn u next (after (Turn sample ms steps image) u)

@@ -13,9 +13,9 @@ use Rattle.runs.specs.Reach.{Call, Turn, after, textOf}
 use Rattle.runs.specs.Causes.{Made}
 
 -- the call is a turn of u that takes the command d, with this sample: it is not refused, nothing is waited for, and the command stands at the place
-pub data Takes (u : Drive) (d : Command) : ℕ → Call → Type 0 where
+pub data TakesCommand (u : Drive) (d : Command) : ℕ → Call → Type 0 where
   takes : {sample ms steps : ℕ} {image : List ℕ} (next : ℕ) → Made u sample steps image → Reads (textOf u) (u .core) (At d next)
-      → Takes u d sample (Turn sample ms steps image)
+      → TakesCommand u d sample (Turn sample ms steps image)
 
 -- a run of u begins: its first command is next, and no loop is open
 pub record Begins (u : Drive) : Type 0 where
@@ -26,7 +26,7 @@ pub record Begins (u : Drive) : Type 0 where
 -- `Ran u xs v`: any calls in any order lead from u to v while the run goes on, and their turns take xs
 pub data Ran (u : Drive) : List Step → Drive → Type 0 where
   none : Ran u [] u
-  taking : {v : Drive} {xs : List Step} {d : Command} {s : ℕ} {c : Call} → Ran u xs v → v .core .running ≡ true → Takes v d s c
+  taking : {v : Drive} {xs : List Step} {d : Command} {s : ℕ} {c : Call} → Ran u xs v → v .core .running ≡ true → TakesCommand v d s c
       → Ran u (xs ++ (step d s ∷ [])) (after c v)
-  other : {v : Drive} {xs : List Step} (c : Call) → Ran u xs v → v .core .running ≡ true → ((d : Command) (s : ℕ) → Takes v d s c → ⊥)
+  other : {v : Drive} {xs : List Step} (c : Call) → Ran u xs v → v .core .running ≡ true → ((d : Command) (s : ℕ) → TakesCommand v d s c → ⊥)
       → Ran u xs (after c v)

@@ -1,13 +1,12 @@
 -- A started unit is one that code can hold, and every byte and every turn keeps it so: no deed takes it away. What answers it fits the
 -- shortest buffer. Assumes nothing.
-use Prim.Native.Nat.{ℕ, zero, suc, _+_, _≤_, min}
-use native.Mathlib.Nat.{pow-le-pow-right}
+use Prim.Native.Nat.{ℕ, zero, suc, _+_, _≤_}
 use native.Mathlib.Omega.{arith}
 use mathlib.Core.Path.{_≡_, refl}
 use mathlib.Core.Bool.{Bool, true, false}
 use mathlib.Core.List.{List, [], _∷_}
-use lib.ListN.{length, take, length-append, length-take}
-use Rattle.parts.specs.Parts.{paddedText}
+use lib.ListN.{length, take, length-take}
+use Rattle.parts.specs.Parts.{paddedText, mostBytes}
 use Rattle.parts.proofs.Laws.{cases, length-padded}
 use Rattle.digits.specs.Operand.{widest}
 use Rattle.digits.proofs.Writing.{length-most}
@@ -17,31 +16,31 @@ use Rattle.frames.specs.declared.Frame.{Frame}
 use Rattle.frames.specs.declared.Framing.{Framing}
 use Rattle.frames.specs.Receive.{Received}
 use Rattle.motor.specs.declared.Motor.{Motor}
-use Rattle.motor.specs.Motion.{fresh, room, counted, reported, stopped}
+use Rattle.motor.specs.Motion.{freshMotor, room, counted, reported, stopped}
 use Rattle.turns.specs.declared.Core.{Core}
 use Rattle.turns.specs.declared.setting.Settings.{Settings}
 use Rattle.turns.specs.declared.Stepped.{Stepped}
 use Rattle.turns.specs.Settings.{defaults}
-use Rattle.turns.specs.Turns.{freshCore, withMotor, started, ended, textAfter}
-use Rattle.lines.specs.Texts.{mostBytes}
+use Rattle.turns.specs.Turns.{freshCore, started, ended, textAfter}
 use Rattle.obeying.specs.declared.Tell.{Tell}
 use Rattle.obeying.specs.declared.Obeyed.{Obeyed}
-use Rattle.obeying.specs.Obeying.{stepSize, dataOf, placeTold, loadedAs, textWritten}
+use Rattle.obeying.specs.Obeying.{dataOf, placeTold, loadedAs, textWritten}
 use Rattle.drive.specs.Unit.{Drive}
 use Rattle.drive.proofs.AnswerLaws.{packet-fits}
 use Rattle.drive.proofs.FeedLaws.{frame-does}
 use Rattle.drive.specs.declared.StartAnswer.{StartAnswer}
 use Rattle.drive.proofs.StartLaws.{started-unit}
 use Rattle.drive.specs.Calls.{startOf, receivedBy, textThen, answerTo, turnOf}
-use Rattle.motor.specs.Deeds.{Goes-on, same, waits, less, places}
-use Rattle.keeping.specs.Deeds.{Sets, Does, goes, ends, Steps, keeps-text, enters-text}
-use Rattle.obeying.specs.Deeds.{Tells, nothingTold, textTold, positionTold, speedTold, sampleTold, endlessTold, stepSizeTold, correctionTold}
+use Rattle.motor.specs.Deeds.{MotorLeads, same, waits, less, places}
+use Rattle.keeping.specs.Deeds.{SettingsLead, Does, goes, ends, Steps, keeps-text, enters-text}
+use Rattle.obeying.specs.Deeds.{Tells, nothing-told, text-told, position-told, speed-told, sample-told, endless-told, step-size-told, correction-told}
+use Rattle.obeying.proofs.SizeLaws.{step-size-fits}
 use Rattle.obeying.specs.Deeds.{Obeys, refuses, tells, stores, clears, stops, resumes, speeds, again, loads}
-use Rattle.keeping.specs.Kept.{Kept, CallsKeep}
+use Rattle.keeping.specs.Kept.{Kept}
 use Rattle.keeping.proofs.CallLaws.{calls-keep}
 use Rattle.keeping.proofs.SettingLaws.{speed-fits, speed-most, endless-fits, correction-fits}
-use Rattle.stream.specs.Steps.{State, Outcome, Quiet, Unanswered, Answer, outcomeOf, bodyIn, obeyedIn, answerIn, stepped, received, byteStep, walkOf}
-use Rattle.stream.specs.Courses.{Event, Byte, Turn, course, afterTurn}
+use Rattle.stream.specs.Steps.{State, Outcome, Quiet, Unanswered, Answer, outcomeOf, bodyHeard, obeyedIn, answerIn, stepped, received, byteStep, walkOf}
+use Rattle.stream.specs.Courses.{Event, Byte, Turn, stretch, afterTurn}
 use Rattle.stream.specs.Fits.{FitsMotor, FitsSettings, FitsCore, Fits}
 use Rattle.stream.proofs.WalkLaws.{walk-is}
 
@@ -60,13 +59,13 @@ reported-fits sample steps m h f = record {
   sample = h;
 }
 
-motor-fits : {steps : ℕ} {m n : Motor} → FitsMotor m → Goes-on steps m n → FitsMotor n
+motor-fits : {steps : ℕ} {m n : Motor} → FitsMotor m → MotorLeads steps m n → FitsMotor n
 motor-fits f (same e) = f
 motor-fits f (waits w r) = f
 motor-fits f (less up left e) = f
 motor-fits f (places p l) = record { position = omega arith; sample = f .sample }
 
-settings-fit : {s r : Settings} → FitsSettings s → Sets s r → FitsSettings r
+settings-fit : {s r : Settings} → FitsSettings s → SettingsLead s r → FitsSettings r
 settings-fit f d = record { speed = speed-fits d (f .speed); correction = correction-fits d (f .correction) }
 
 -- a run's stop leaves the position and the sample
@@ -87,7 +86,7 @@ padded-fits : (t : List ℕ) → length (paddedText t) ≤ mostData
 padded-fits t = let n : length (take 256 t) ≤ 256 = simp length-take (omega arith) in omega (arith, length-padded 256 (take 256 t) n)
 
 fresh-fits : FitsCore freshCore
-unfolding freshCore fresh defaults
+unfolding freshCore freshMotor defaults
 fresh-fits = record {
   motor = record { position = omega arith; sample = omega arith };
   settings = record { speed = omega arith; correction = omega arith };
@@ -135,20 +134,15 @@ FitsTell Tell.Nothing = Unit
 FitsTell (Tell.Number k) = k ≤ widest
 FitsTell Tell.Text = Unit
 
--- 2 to the 8 at most
-step-size-fits : (e : ℕ) → stepSize e ≤ widest
-unfolding stepSize
-step-size-fits e = let h : min e 8 ≤ 8 = omega arith in omega (arith, pow-le-pow-right {n = 2} (omega arith) h)
-
 tells-fits : {c : Core} {t : Tell} → FitsCore c → Tells c t → FitsTell t
-tells-fits f nothingTold = tt
-tells-fits f textTold = tt
-tells-fits f positionTold = f .motor .position
-tells-fits f speedTold = f .settings .speed
-tells-fits f sampleTold = f .motor .sample
-tells-fits f endlessTold = f .endless
-tells-fits {c} f stepSizeTold = step-size-fits (c .settings .exponent)
-tells-fits f correctionTold = f .settings .correction
+tells-fits f nothing-told = tt
+tells-fits f text-told = tt
+tells-fits f position-told = f .motor .position
+tells-fits f speed-told = f .settings .speed
+tells-fits f sample-told = f .motor .sample
+tells-fits f endless-told = f .endless
+tells-fits {c} f step-size-told = step-size-fits (c .settings .exponent)
+tells-fits f correction-told = f .settings .correction
 
 place-fits : (p : ℕ) → p ≤ mostBytes + 1 → FitsTell (placeTold p)
 place-fits zero h = tt
@@ -185,7 +179,7 @@ FitsOutcome (Answer answer) = (1 ≤ length answer) × (length answer ≤ packet
 
 module _ (s : State) (f : Fits (s .unit)) where
   stepped-fits : (r : Received) → Fits (stepped r s .state .unit)
-  stepped-fits r = obeys-fits (s .unit .text) f (frame-does (r .frame) (bodyIn r s) (s .unit .core))
+  stepped-fits r = obeys-fits (s .unit .text) f (frame-does (r .frame) (bodyHeard r s) (s .unit .core))
 
   outcome-fits : (r : Received) → FitsOutcome (stepped r s .outcome)
   outcome-fits r = go (r .frame) refl
@@ -194,7 +188,7 @@ module _ (s : State) (f : Fits (s .unit)) where
       go Frame.Nothing e = rw e tt
       go Frame.Alone e =
           let o = obeyedIn r s in
-          let a = answer-fits (r .framing) o (textThen (bodyIn r s) o (s .unit .text)) (stepped-fits r .text) (told-fits (f .core) (frame-does (r .frame) (bodyIn r s) (s .unit .core))) in
+          let a = answer-fits (r .framing) o (textThen (bodyHeard r s) o (s .unit .text)) (stepped-fits r .text) (told-fits (f .core) (frame-does (r .frame) (bodyHeard r s) (s .unit .core))) in
           rw e (rw e at a)
       go Frame.Group e = rw e tt
 
@@ -208,8 +202,8 @@ module _ (s : State) (f : Fits (s .unit)) where
 
 -- ---- all that comes
 
-pub course-fits : (s : State) (es : List Event) → Fits (s .unit) → Fits (course s es .end .unit)
-unfolding course
+pub course-fits : (s : State) (es : List Event) → Fits (s .unit) → Fits (stretch s es .end .unit)
+unfolding stretch
 course-fits s [] f = f
 course-fits s (Byte b ∷ es) f = course-fits (byteStep s b .state) es (step-fits s f b)
 course-fits s (Turn sample ms steps ∷ es) f = course-fits (afterTurn s sample ms steps) es (turn-fits (s .unit) sample ms steps (s .image) f)

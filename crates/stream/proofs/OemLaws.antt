@@ -1,14 +1,15 @@
 -- What 02 says of OEM frames: a skipped one completes nothing; of a repeat only a query or an empty body is obeyed, and neither changes the
 -- unit; and what is obeyed is read off the body alone. Assumes nothing.
-use Prim.Native.Nat.{ℕ, _+_, _≤_}
+use Prim.Native.Nat.{ℕ, _+_}
 use mathlib.Core.Path.{_≡_, refl, sym, ap, _∙_}
 use mathlib.Core.List.{List, [], _∷_, _++_}
-use mathlib.Core.Bool.{Bool, true, false, cond, not, _&&_, and-eq-true-iff, true≢false}
+use mathlib.Core.Bool.{true, false, cond, not, and-eq-true-iff, true≢false}
 use lib.ListN.{length, take}
 use lib.Dec.{ltb, eqb}
 use borrow.Author.Tests.{le-ltb, eqb-true}
 use Rattle.parts.specs.Parts.{same, putIn}
 use Rattle.parts.proofs.Laws.{cases}
+use Rattle.parts.specs.Letters.{cr, etx}
 use Rattle.answers.specs.Packet.{packetBytes, statusOf}
 use Rattle.commands.specs.Table as table
 use Rattle.lines.specs.declared.Immediate.{Immediate}
@@ -20,18 +21,18 @@ use Rattle.frames.specs.declared.Frame.{Frame}
 use Rattle.frames.specs.declared.Framing.{Framing}
 use Rattle.frames.specs.Addresses.{isUnit, calledOf}
 use Rattle.frames.specs.declared.Place.{Place}
-use Rattle.frames.specs.Receive.{Receiver, Received, bodyIn, cr, etx, mostKept, obeyed, good, elsewhere, past}
+use Rattle.frames.specs.Receive.{Receiver, Received, bodyIn, mostKept, ours, good, elsewhere, past}
 use Rattle.frames.specs.Claims.{Sound, SameBody, Same, free, frameOf, oemOf, sumOf}
 use Rattle.frames.proofs.Bodies.{whole, whole-oem, wrong-sum}
 use Rattle.frames.proofs.Alike.{as-if-not-come}
 use Rattle.turns.specs.declared.Core.{Core}
 use Rattle.obeying.specs.declared.Tell.{Tell}
 use Rattle.obeying.specs.declared.Obeyed.{Obeyed}
-use Rattle.obeying.specs.Obeying.{telling, silent, immediateObeyed, kindObeyed, bodyObeyed, dataOf, textWritten, imageWritten}
+use Rattle.obeying.specs.Obeying.{telling, immediateObeyed, kindObeyed, bodyObeyed, dataOf, textWritten, imageWritten}
 use Rattle.drive.specs.declared.FeedAnswer.{FeedAnswer}
 use Rattle.drive.specs.declared.Last.{Last}
 use Rattle.drive.specs.Unit.{Drive}
-use Rattle.drive.specs.Repeats.{numberIn, repeats, isRepeat, asks, kindAsks, isQuery, chosen, isRefusal, numberedBy, lastAfter}
+use Rattle.drive.specs.Repeats.{sequenceNumber, repeats, isRepeat, asks, kindAsks, isQuery, chosen, isRefusal, numberedBy, lastAfter}
 use Rattle.drive.specs.Calls.{Starting, freshUnit, noUnit, startOf, mostSample, Turning, turnOf, receivedBy, frameObeyed, bodyBy, obeyedBy, textThen, answerTo, answerFor, Feeding, feedTaken, feedOf}
 use Rattle.drive.proofs.FeedLaws.{put-nothing}
 use Rattle.stream.specs.Oem.{movedTo, Heeded, SkippedBy, PassesOver, RepeatedBy, SameAnswer, SameDeed}
@@ -66,7 +67,7 @@ abbrev made : Drive → List ℕ → List ℕ → Receiver → ℕ → Frame →
 made u image buffer r n f g b =
     feedTaken (record { receiver = r; consumed = n; frame = f; framing = g }) (chosen (u .last) g b) (frameObeyed f (chosen (u .last) g b) (u .core)) u image buffer
 
-made-alike : (u : Drive) (image buffer : List ℕ) (r : Receiver) (n : ℕ) (f : Frame) (g : Framing) (b b′ : List ℕ) → (obeyed f ≡ true → b ≡ b′)
+made-alike : (u : Drive) (image buffer : List ℕ) (r : Receiver) (n : ℕ) (f : Frame) (g : Framing) (b b′ : List ℕ) → (ours f ≡ true → b ≡ b′)
     → made u image buffer r n f g b ≡ made u image buffer r n f g b′
 made-alike u image buffer r n Frame.Nothing g b b′ e = refl
 made-alike u image buffer r n Frame.Alone g b b′ e = ap (λ (x : List ℕ). made u image buffer r n Frame.Alone g x) (e refl)
@@ -152,7 +153,7 @@ number-same : (g : Framing) (code : ℕ) (last : Last) → isRepeat last g ≡ t
 number-same Framing.Plain code last e = refl
 number-same (Framing.Oem q) code Last.Never e = absurd (true≢false (sym e))
 number-same (Framing.Oem q) code (Last.Number n) e =
-    let k = eqb-true (numberIn q) n (and-eq-true-iff (repeats q) (eqb (numberIn q) n) .0 e .1) in
+    let k = eqb-true (sequenceNumber q) n (and-eq-true-iff (repeats q) (eqb (sequenceNumber q) n) .0 e .1) in
     cases (λ (l : Last). l ≡ Last.Number n) (isRefusal code) (λ r. refl) (λ r. ap (λ (m : ℕ). Last.Number m) k)
 
 last-same : (f : Frame) (g : Framing) (code : ℕ) (last : Last) → isRepeat last g ≡ true → lastAfter f g code last ≡ last
@@ -255,7 +256,7 @@ module _ (u : Drive) (q : ℕ) (xs ys image buffer : List ℕ) (h : Heeded image
       }
 
 pub same-deed : (u : Drive) (a q : ℕ) (body image buffer : List ℕ) → Heeded image buffer → Sound (u .receiver) → elsewhere (u .receiver .place) ≡ true
-    → obeyed (calledOf (u .number) a) ≡ true → good q ≡ true → free cr body ≡ true → free etx body ≡ true
+    → ours (calledOf (u .number) a) ≡ true → good q ≡ true → free cr body ≡ true → free etx body ≡ true
     → isRepeat (u .last) (Framing.Oem q) ≡ false
     → SameDeed u (frameOf a body) (oemOf a q body (sumOf a q body)) image buffer
 same-deed u a q body image buffer h s l k g f e n =
@@ -271,15 +272,15 @@ same-deed u a q body image buffer h s l k g f e n =
 
 -- ---- the number
 
-number-kept : (f : Frame) (g : Framing) (q code : ℕ) (last : Last) → obeyed f ≡ true → g ≡ Framing.Oem q
-    → lastAfter f g code last ≡ cond (isRefusal code) last (Last.Number (numberIn q))
+number-kept : (f : Frame) (g : Framing) (q code : ℕ) (last : Last) → ours f ≡ true → g ≡ Framing.Oem q
+    → lastAfter f g code last ≡ cond (isRefusal code) last (Last.Number (sequenceNumber q))
 number-kept Frame.Nothing g q code last o e = absurd (true≢false (sym o))
 number-kept Frame.Alone g q code last o e = rw e
 number-kept Frame.Group g q code last o e = rw e
 
-pub numbers : (u : Drive) (bytes image buffer : List ℕ) (q : ℕ) → Heeded image buffer → obeyed (receivedBy u bytes .frame) ≡ true
+pub numbers : (u : Drive) (bytes image buffer : List ℕ) (q : ℕ) → Heeded image buffer → ours (receivedBy u bytes .frame) ≡ true
     → receivedBy u bytes .framing ≡ Framing.Oem q
-    → feedOf u bytes image buffer .unit .last ≡ cond (isRefusal (obeyedBy u bytes .code)) (u .last) (Last.Number (numberIn q))
+    → feedOf u bytes image buffer .unit .last ≡ cond (isRefusal (obeyedBy u bytes .code)) (u .last) (Last.Number (sequenceNumber q))
 numbers u bytes image buffer q h o e =
     ap (λ (x : Feeding). x .unit .last) (feed-is u bytes image buffer h)
     ∙ number-kept (receivedBy u bytes .frame) (receivedBy u bytes .framing) q (obeyedBy u bytes .code) (u .last) o e

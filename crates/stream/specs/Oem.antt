@@ -6,6 +6,7 @@ use mathlib.Core.List.{List, [], _∷_, _++_}
 use mathlib.Core.Bool.{Bool, true, false, cond}
 use lib.ListN.{length}
 use Rattle.parts.specs.Parts.{putIn}
+use Rattle.parts.specs.Letters.{cr, etx}
 use Rattle.answers.specs.Packet.{packet, packetBytes}
 use Rattle.answers.specs.Oem.{oemPacket}
 use Rattle.image.specs.Image.{rightLength}
@@ -13,14 +14,14 @@ use Rattle.frames.specs.declared.Framing.{Framing}
 use Rattle.frames.specs.Addresses.{calledOf}
 use Rattle.frames.specs.declared.Frame.{Frame}
 use Rattle.frames.specs.declared.Place.{Place}
-use Rattle.frames.specs.Receive.{Receiver, bodyIn, cr, etx, obeyed, good, elsewhere}
+use Rattle.frames.specs.Receive.{Receiver, bodyIn, ours, good, elsewhere}
 use Rattle.frames.specs.Claims.{Sound, Alike, free, frameOf, oemOf, sumOf}
 use Rattle.obeying.specs.declared.Tell.{Tell}
 use Rattle.obeying.specs.Obeying.{telling}
 use Rattle.drive.specs.declared.FeedAnswer.{FeedAnswer}
 use Rattle.drive.specs.declared.Last.{Last}
 use Rattle.drive.specs.Unit.{Drive, drive}
-use Rattle.drive.specs.Repeats.{numberIn, isRepeat, isQuery, isRefusal}
+use Rattle.drive.specs.Repeats.{sequenceNumber, isRepeat, isQuery, isRefusal}
 use Rattle.drive.specs.Calls.{startOf, receivedBy, frameObeyed, obeyedBy, Feeding, feedOf, turnOf}
 
 -- the unit with another receiver
@@ -94,13 +95,13 @@ pub record OemClaims : Type 0 where
       → isRepeat (u .last) (receivedBy u bytes .framing) ≡ true → RepeatedBy u bytes image buffer
   -- "One reading of bodies .. serves both framings": a whole frame that is no repeat, in either framing
   pub same-deed : (u : Drive) (a q : ℕ) (body image buffer : List ℕ) → Heeded image buffer → Sound (u .receiver) → elsewhere (u .receiver .place) ≡ true
-      → obeyed (calledOf (u .number) a) ≡ true → good q ≡ true → free cr body ≡ true → free etx body ≡ true
+      → ours (calledOf (u .number) a) ≡ true → good q ≡ true → free cr body ≡ true → free etx body ≡ true
       → isRepeat (u .last) (Framing.Oem q) ≡ false
       → SameDeed u (frameOf a body) (oemOf a q body (sumOf a q body)) image buffer
   -- "the last OEM frame for this unit or its groups not refused": its number is kept, of no other frame
-  pub numbers : (u : Drive) (bytes image buffer : List ℕ) (q : ℕ) → Heeded image buffer → obeyed (receivedBy u bytes .frame) ≡ true
+  pub numbers : (u : Drive) (bytes image buffer : List ℕ) (q : ℕ) → Heeded image buffer → ours (receivedBy u bytes .frame) ≡ true
       → receivedBy u bytes .framing ≡ Framing.Oem q
-      → feedOf u bytes image buffer .unit .last ≡ cond (isRefusal (obeyedBy u bytes .code)) (u .last) (Last.Number (numberIn q))
+      → feedOf u bytes image buffer .unit .last ≡ cond (isRefusal (obeyedBy u bytes .code)) (u .last) (Last.Number (sequenceNumber q))
   -- "(at start there is none)"; plain frames and turns leave it
   pub none-at-start : (number : ℕ) (image body text : List ℕ) → startOf number image body text .unit .last ≡ Last.Never
   pub plain-leaves : (u : Drive) (bytes image buffer : List ℕ) → receivedBy u bytes .framing ≡ Framing.Plain

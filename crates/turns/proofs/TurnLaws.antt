@@ -28,7 +28,7 @@ use Rattle.motor.proofs.StopLaws.{ServeStops, relative-stops, relative-leaves, 
 use Rattle.turns.specs.declared.Core.{Core}
 use Rattle.turns.specs.declared.Stepped.{Stepped}
 use Rattle.turns.specs.Turns.{withFlow, withMotor, ended, astray, moved, acted, flowed, skipped, stays, jumped, skipTaken, commandTaken, readTaken, running, stepOf, turnCore}
-use Rattle.turns.specs.Ends.{Moving, moveTo, moveUp, moveDown, Leaving, beyond, above, below, Reads, Strays, badRead, tooDeep, noneOpen, skipsBad, skipsEnd, TurnEnds, textEnds, notClear, notCut, badSlot, unknown, leavesRange, rangeEnds}
+use Rattle.turns.specs.Ends.{Moving, move-to, move-up, move-down, Leaving, beyond, above, below, Reads, Strays, bad-read, too-deep, none-open, skips-bad, skips-end, TurnEnds, text-ends, not-clear, not-cut, bad-slot, unknown, leaves-range, range-ends}
 use Rattle.turns.proofs.MoveLaws.{absolute-stops, absolute-leaves, clash, moved-ends, moved-stops, known-stop, unknown-stop}
 
 -- "and answers the next motor action": the action kept is that of the wait
@@ -83,19 +83,19 @@ module _ (sample ms steps : ℕ) (t image : List ℕ) (c : Core) where
     where
       go : ((c .motor .known ≡ false) × (k ≡ 7)) ⊎ ((c .motor .known ≡ true) × (s ≡ Stops k)) → Ends k
       go (inl u) = rw (u .1) (cause (unknown a next r m (u .0)))
-      go (inr u) = let l = f k (u .1) in rw (l .0) (cause (leavesRange a next r (u .0) (l .1)))
+      go (inr u) = let l = f k (u .1) in rw (l .0) (cause (leaves-range a next r (u .0) (l .1)))
 
   act-ends : (a : Act) (next : ℕ) → Reads t c (At (Plain a) next) → c .running ≡ true → Caused (acted a (behind next))
   unfolding acted
   act-ends (MoveTo n) next r h =
       moved-ends Ends (behind next) (ifKnown then (absolute n then)) h
-      (move-ends (MoveTo n) next (absolute n then) r (moveTo n) (λ k e. let s = absolute-stops n then e in (s .0, beyond n (s .1) (s .2))))
+      (move-ends (MoveTo n) next (absolute n then) r (move-to n) (λ k e. let s = absolute-stops n then e in (s .0, beyond n (s .1) (s .2))))
   act-ends (MoveUp n) next r h =
       moved-ends Ends (behind next) (ifKnown then (relative true n then)) h
-      (move-ends (MoveUp n) next (relative true n then) r (moveUp n) (λ k e. let s = relative-stops true n then e in (s .0, above n (s .2))))
+      (move-ends (MoveUp n) next (relative true n then) r (move-up n) (λ k e. let s = relative-stops true n then e in (s .0, above n (s .2))))
   act-ends (MoveDown n) next r h =
       moved-ends Ends (behind next) (ifKnown then (relative false n then)) h
-      (move-ends (MoveDown n) next (relative false n then) r (moveDown n) (λ k e. let s = relative-stops false n then e in (s .0, below n (s .2))))
+      (move-ends (MoveDown n) next (relative false n then) r (move-down n) (λ k e. let s = relative-stops false n then e in (s .0, below n (s .2))))
   act-ends (SetPosition n) next r h = clash h
   act-ends (Home n) next r h = clash h
   act-ends (Set which n) next r h = clash h
@@ -113,18 +113,18 @@ module _ (sample ms steps : ℕ) (t image : List ℕ) (c : Core) where
     where
       go : levelThere digits sample ≡ true → (x : Read) → readAt t next ≡ x → Caused (skipped x after)
       go l (At d past) e z = clash h z
-      go l (Bad f) e z = straying (skipsBad digits next f r l e) refl
-      go l End e z = straying (skipsEnd digits next r l e) refl
+      go l (Bad f) e z = straying (skips-bad digits next f r l e) refl
+      go l End e z = straying (skips-end digits next r l e) refl
 
   jump-ends : (slot next : ℕ) → Reads t c (At (Jump slot) next) → c .running ≡ true → Caused (jumped slot image after .core)
   unfolding jumped ended
-  jump-ends slot next r h = cases (λ (s : Stepped). Caused (s .core)) (slotGood image slot) (λ q z. clash h z) (λ q z. cause (badSlot slot next r q))
+  jump-ends slot next r h = cases (λ (s : Stepped). Caused (s .core)) (slotGood image slot) (λ q z. clash h z) (λ q z. cause (bad-slot slot next r q))
 
   command-ends : (d : Command) (next : ℕ) → Reads t c (At d next) → c .running ≡ true
       → Caused (commandTaken d next t image after .core)
   unfolding commandTaken
-  command-ends LoopBegin next r h = flow-ends (loopBegun next (c .flow)) h (λ q. tooDeep next r q)
-  command-ends (LoopEnd n) next r h = flow-ends (loopEnded n next (c .flow)) h (λ q. noneOpen n next r q)
+  command-ends LoopBegin next r h = flow-ends (loopBegun next (c .flow)) h (λ q. too-deep next r q)
+  command-ends (LoopEnd n) next r h = flow-ends (loopEnded n next (c .flow)) h (λ q. none-open n next r q)
   command-ends (Skip digits) next r h = skip-ends digits next r h
   command-ends (Jump slot) next r h = jump-ends slot next r h
   command-ends (Plain a) next r h = act-ends a next r h
@@ -132,15 +132,15 @@ module _ (sample ms steps : ℕ) (t image : List ℕ) (c : Core) where
   read-ends : (r : Read) → Reads t c r → c .running ≡ true → Caused (readTaken r t image after .core)
   unfolding readTaken astray ended
   read-ends (At d next) r h = command-ends d next r h
-  read-ends (Bad f) r h = λ z. straying (badRead f r) refl
-  read-ends End r h = λ z. cause (textEnds r)
+  read-ends (Bad f) r h = λ z. straying (bad-read f r) refl
+  read-ends End r h = λ z. cause (text-ends r)
 
   served-ends : (k : ℕ) (w : Wait) → c .motor .wait ≡ w
       → ServeStops (c .motor .sample) (c .settings .flag) steps then w k → Ends k
   unfolding reported
-  served-ends k w e (stops.rangeEnds up left f z) = cause (rangeEnds up left e f z)
-  served-ends k w e (stops.notClear left n f l) = cause (notClear left n e f l)
-  served-ends k w e (stops.notCut left f l) = cause (notCut left e f l)
+  served-ends k w e (stops.range-ends up left f z) = cause (range-ends up left e f z)
+  served-ends k w e (stops.not-clear left n f l) = cause (not-clear left n e f l)
+  served-ends k w e (stops.not-cut left f l) = cause (not-cut left e f l)
 
   -- a run that a turn ends has had a cause, or has gone astray
   pub step-only : c .running ≡ true → Caused (stepOf sample ms steps t image c .core)
@@ -182,39 +182,30 @@ module _ (sample ms steps : ℕ) (t image : List ℕ) (c : Core) where
   unknown-stops : (a : Act) (next : ℕ) → Moving a → c .motor .known ≡ false
       → (acted a (behind next) .running ≡ false) × (acted a (behind next) .code ≡ 7)
   unfolding acted reported
-  unknown-stops a next (moveTo n) q = unknown-stop (behind next) then (absolute n then) q
-  unknown-stops a next (moveUp n) q = unknown-stop (behind next) then (relative true n then) q
-  unknown-stops a next (moveDown n) q = unknown-stop (behind next) then (relative false n then) q
-
-  -- going astray ends the run too, and leaves the held code
-  pub strays-end : Strays sample t c → c .running ≡ true → Ended (stepOf sample ms steps t image c) (c .code)
-  unfolding readTaken commandTaken skipTaken astray ended reported
-  strays-end (badRead f r) h = rw (at-command h (Bad f) r) (refl, refl)
-  strays-end (tooDeep next r q) h = rw (at-command h (At LoopBegin next) r, q) (refl, refl)
-  strays-end (noneOpen n next r q) h = rw (at-command h (At (LoopEnd n) next) r, q) (refl, refl)
-  strays-end (skipsBad digits next f r l e) h = rw (at-command h (At (Skip digits) next) r, l, e) (refl, refl)
-  strays-end (skipsEnd digits next r l e) h = rw (at-command h (At (Skip digits) next) r, l, e) (refl, refl)
+  unknown-stops a next (move-to n) q = unknown-stop (behind next) then (absolute n then) q
+  unknown-stops a next (move-up n) q = unknown-stop (behind next) then (relative true n then) q
+  unknown-stops a next (move-down n) q = unknown-stop (behind next) then (relative false n then) q
 
   -- each cause ends the run, with its code
   pub step-each : (k : ℕ) → TurnEnds sample steps t image c k → c .running ≡ true
       → Ended (stepOf sample ms steps t image c) k
   unfolding readTaken commandTaken jumped ended reported
-  step-each k (textEnds r) h = rw (at-command h End r) (refl, refl)
-  step-each k (notClear left n e f l) h =
+  step-each k (text-ends r) h = rw (at-command h End r) (refl, refl)
+  step-each k (not-clear left n e f l) h =
       rw (at-wait h (Wait.LegAway left n) e refl)
       (moved-stops after (served (Wait.LegAway left n) (c .motor .sample) (c .settings .flag) ms steps then)
-      (stops-serve ms (stops.notClear left n f l)))
-  step-each k (notCut left e f l) h =
+      (stops-serve ms (stops.not-clear left n f l)))
+  step-each k (not-cut left e f l) h =
       rw (at-wait h (Wait.LegToward left) e refl)
       (moved-stops after (served (Wait.LegToward left) (c .motor .sample) (c .settings .flag) ms steps then)
-      (stops-serve ms (stops.notCut left f l)))
-  step-each k (badSlot slot next r q) h = rw (at-command h (At (Jump slot) next) r, q) (refl, refl)
+      (stops-serve ms (stops.not-cut left f l)))
+  step-each k (bad-slot slot next r q) h = rw (at-command h (At (Jump slot) next) r, q) (refl, refl)
   step-each k (unknown a next r m q) h = act-stops a next 7 r h (unknown-stops a next m q)
-  step-each k (leavesRange a next r q l) h = act-stops a next 11 r h (leaving-stops a next q l)
-  step-each k (rangeEnds goesUp left e f z) h =
+  step-each k (leaves-range a next r q l) h = act-stops a next 11 r h (leaving-stops a next q l)
+  step-each k (range-ends goesUp left e f z) h =
       rw (at-wait h (Wait.Move goesUp true left) e refl)
       (moved-stops after (served (Wait.Move goesUp true left) (c .motor .sample) (c .settings .flag) ms steps then)
-      (stops-serve ms (stops.rangeEnds goesUp left f z)))
+      (stops-serve ms (stops.range-ends goesUp left f z)))
 
 -- ---- a whole turn: the text is the current one
 

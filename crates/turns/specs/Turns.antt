@@ -1,6 +1,7 @@
 -- A turn: one wait served, or one command taken. 01, "A turn".
 -- Assumes nothing.
 use Prim.Native.Nat.{ℕ}
+use Prim.Native.String.{String}
 use mathlib.Core.List.{List}
 use mathlib.Core.Bool.{Bool, true, false, cond}
 use lib.ListN.{length, take}
@@ -23,7 +24,7 @@ use Rattle.motor.specs.declared.Motor.{Motor}
 use Rattle.motor.specs.declared.Moved.{Moved}
 use Rattle.motor.specs.declared.Moved.the-variants.{Goes, Stops}
 use Rattle.motor.specs.Inputs.{levelThere}
-use Rattle.motor.specs.Motion.{waiting, placedAt, reported, isFree, answered, relative, absolute, ifKnown, homed, delayed, held, served, stopped, fresh}
+use Rattle.motor.specs.Motion.{waiting, placedAt, reported, isFree, answered, relative, absolute, ifKnown, homed, delayed, held, served, stopped, freshMotor}
 use Rattle.turns.specs.declared.setting.Settings.{Settings}
 use Rattle.turns.specs.declared.Core.{Core}
 use Rattle.turns.specs.declared.Enter.{Enter}
@@ -54,7 +55,7 @@ withEndless speed c = core (c .flow) (c .motor) (c .settings) (c .running) (c .l
 
 -- a fresh unit: idle, its text empty; the endless speed is "0 before the first endless move"
 unfoldable pub freshCore : Core
-freshCore = core (begun 0) fresh defaults false false 0 0
+freshCore = core (begun 0) freshMotor defaults false false 0 0
 
 -- a run starts on a text of so many bytes; the held code is "set to 0 when a run starts"
 unfoldable pub started : ℕ → Core → Core
@@ -80,14 +81,14 @@ speedAfter n (Goes m) c = cond (eqb n 0) (c .settings .speed) (c .endless)
 speedAfter n (Stops code) c = c .endless
 
 -- `P n` and `D n`
-abbrev pub movedBy : ℕ → Moved → Core → Core
-movedBy n r c = withEndless (speedAfter n r c) (moved r c)
+abbrev pub relativeMoved : ℕ → Moved → Core → Core
+relativeMoved n r c = withEndless (speedAfter n r c) (moved r c)
 
 -- a plain command, behind which the flow stands already
 unfoldable pub acted : Act → Core → Core
 acted (MoveTo n) c = moved (ifKnown (c .motor) (absolute n (c .motor))) c
-acted (MoveUp n) c = movedBy n (ifKnown (c .motor) (relative true n (c .motor))) c
-acted (MoveDown n) c = movedBy n (ifKnown (c .motor) (relative false n (c .motor))) c
+acted (MoveUp n) c = relativeMoved n (ifKnown (c .motor) (relative true n (c .motor))) c
+acted (MoveDown n) c = relativeMoved n (ifKnown (c .motor) (relative false n (c .motor))) c
 acted (SetPosition n) c = withMotor (placedAt n (c .motor)) c
 acted (Home n) c = withMotor (homed (c .settings .flag) n (c .motor)) c
 acted (Set which n) c = withSettings (withSetting which n (c .settings)) c
@@ -111,10 +112,14 @@ stays c = record { core = c; enter = Stay }
 abbrev pub enters : ℕ → Core → Stepped
 enters slot c = record { core = c; enter = Into slot }
 
+-- "`e` to a slot whose entry or body .. breaks the image's rules (1)"
+abbrev pub slotBroken : ℕ
+slotBroken = 1
+
 -- "`e` makes the slot's text the current text (not where it stops the run with 1), closes all loops and begins it"
 unfoldable pub jumped : ℕ → List ℕ → Core → Stepped
 jumped slot image c =
-    cond (slotGood image slot) (enters slot (withFlow (begun (length (slotText image slot))) c)) (stays (ended 1 c))
+    cond (slotGood image slot) (enters slot (withFlow (begun (length (slotText image slot))) c)) (stays (ended slotBroken c))
 
 -- "`S` tests one": the next command is skipped where the input has the level
 unfoldable pub skipTaken : ℕ → List ℕ → ℕ → Core → Core
@@ -170,6 +175,11 @@ textAfter (Into slot) text image = paddedText (slotText image slot)
 abbrev pub directionOf : Bool → ℕ → Direction
 directionOf true f = cond (eqb f 0) Up Down
 directionOf false f = cond (eqb f 0) Down Up
+
+abbrev pub directionName : Direction → String
+directionName Up = "up"
+directionName Down = "down"
+directionName Still = "no direction"
 
 unfoldable pub actionAnswered : ℕ → Last → Action
 actionAnswered f l =

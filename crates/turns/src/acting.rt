@@ -1,6 +1,6 @@
 // A plain command: a move, a setting, a wait.
 ghost use mathlib.Core.Path.{_≡_};
-ghost use Rattle.turns.specs.Turns.{moved, speedAfter, movedBy, acted};
+ghost use Rattle.turns.specs.Turns.{moved, speedAfter, relativeMoved, acted};
 use crate::Core;
 use crate::setting;
 use commands::Act;
@@ -36,7 +36,7 @@ pub(crate) fn move_on(c: Core, m: Moved) -> Core
 
 // The same for P and D: an endless move that is taken has its speed from V.
 fn move_on_by(c: Core, n: u32, m: Moved) -> Core
-    ensures { λ r. ⌜ r ≡ movedBy n m c ⌝ }
+    ensures { λ r. ⌜ r ≡ relativeMoved n m c ⌝ }
 {
     let mut d = move_on(c, m);
     d.endless = speed_after(c, n, m);

@@ -4,58 +4,34 @@ use native.Mathlib.Omega.{arith}
 use native.Mathlib.Nat.{add-zero}
 use borrow.Author.Needs.{needs}
 use Rattle.answers.specs.Reading.{framed}
-use Rattle.answers.proofs.Framing.{fails, framed-long, framed-first, framed-second, framed-last, by-last}
+use Rattle.answers.proofs.Framing.{fails, plain, framed-long, framed-first, framed-second, framed-last, by-last}
 use Rattle.answers.proofs.framed.Statement.{statement}
 use Rattle.answers.proofs.framed.Tie as tie
 
 returns : tie.Need-returns
 returns c =
     let s = c .before .args .packet .now in
-    fails (framed s) (λ f. omega (arith, framed-long s f))
-
-shared-slice-read-if2 : tie.Need-shared-slice-read-if2
-shared-slice-read-if2 c = search needs
+    fails (framed s) (λ f. omega (arith, framed-long plain s f))
 
 returns-2 : tie.Need-returns-2
 returns-2 c =
     let s = c .before .before .before .args .packet .now in
-    fails (framed s) (λ f. c .if2 .taken (framed-first s f))
-
-shared-slice-read-if3 : tie.Need-shared-slice-read-if3
-shared-slice-read-if3 c = search needs
+    fails (framed s) (λ f. c .if2 .taken (framed-first plain s f))
 
 returns-3 : tie.Need-returns-3
 returns-3 c =
     let s = c .before .before .before .before .before .args .packet .now in
-    fails (framed s) (λ f. c .if3 .taken (framed-second s f))
-
-sub-end : tie.Need-sub-end
-sub-end c = search needs
-
-shared-slice-read-if4 : tie.Need-shared-slice-read-if4
-shared-slice-read-if4 c = search needs
+    fails (framed s) (λ f. c .if3 .taken (framed-second plain s f))
 
 returns-4 : tie.Need-returns-4
 returns-4 c =
     let s = c .before .before .before .before .before .before .before .args .packet .now in
-    fails (framed s) (λ f. c .if4 .taken (rw add-zero at (framed-last s f 0)))
-
-add-if5 : tie.Need-add-if5
-add-if5 c = search needs
-
-shared-slice-read-if5 : tie.Need-shared-slice-read-if5
-shared-slice-read-if5 c = search needs
+    fails (framed s) (λ f. c .if4 .taken (rw add-zero at (framed-last plain s f 0)))
 
 returns-5 : tie.Need-returns-5
 returns-5 c =
     let s = c .before .before .before .before .before .before .before .before .before .args .packet .now in
-    fails (framed s) (λ f. c .if5 .taken (framed-last s f 1))
-
-add-result : tie.Need-add-result
-add-result c = search needs
-
-shared-slice-read-result : tie.Need-shared-slice-read-result
-shared-slice-read-result c = search needs
+    fails (framed s) (λ f. c .if5 .taken (framed-last plain s f 1))
 
 returns-6 : tie.Need-returns-6
 returns-6 c =
@@ -71,16 +47,16 @@ framed-spec =
     tie.close
     (tie.spec
     returns
-    shared-slice-read-if2
+    (λ c. search needs)
     returns-2
-    shared-slice-read-if3
+    (λ c. search needs)
     returns-3
-    sub-end
-    shared-slice-read-if4
+    (λ c. search needs)
+    (λ c. search needs)
     returns-4
-    add-if5
-    shared-slice-read-if5
+    (λ c. search needs)
+    (λ c. search needs)
     returns-5
-    add-result
-    shared-slice-read-result
+    (λ c. search needs)
+    (λ c. search needs)
     returns-6)

@@ -15,15 +15,6 @@ Inv-loop bytes i₀ i = (i ≤ length bytes) × (allPrintable bytes ≡ allPrint
 abbrev μ-loop : tie.MeasureT-loop
 μ-loop bytes i₀ i = length bytes - i
 
-returns : tie.Need-returns Inv-loop μ-loop
-returns c = data-long _ (c .if1 .taken)
-
-loop-holds : tie.Need-loop-holds Inv-loop μ-loop
-loop-holds c = (omega arith, refl)
-
-shared-slice-read-b : tie.Need-shared-slice-read-b Inv-loop μ-loop
-shared-slice-read-b c = omega arith
-
 returns-2 : tie.Need-returns-2 Inv-loop μ-loop
 returns-2 c =
     let here = c .before .before in
@@ -34,19 +25,10 @@ returns-3 c =
     let here = c .before .before .before in
     data-above _ _ (here .before .before .if1 .left) (here .before .loop .inv .1) (here .loop-test .taken) (c .before .if2 .left) (c .if3 .taken)
 
-add-i : tie.Need-add-i Inv-loop μ-loop
-add-i c = omega arith
-
-loop-less : tie.Need-loop-less Inv-loop μ-loop
-loop-less c = omega arith
-
 loop-again : tie.Need-loop-again Inv-loop μ-loop
 loop-again c =
     let here = c .before .before .before in
     (omega arith, data-more _ _ (here .before .before .if1 .left) (here .before .loop .inv .1) (here .loop-test .taken) (c .before .if2 .left) (c .if3 .left))
-
-returns-4 : tie.Need-returns-4 Inv-loop μ-loop
-returns-4 c = data-good _ _ (c .before .before .if1 .left) (c .before .loop .inv .1) (c .loop-test .left)
 
 pub good-data-spec : {M : Type 1} → statement M
 good-data-spec =
@@ -54,12 +36,12 @@ good-data-spec =
     (tie.spec
     Inv-loop
     μ-loop
-    returns
-    loop-holds
-    shared-slice-read-b
+    (λ c. data-long _ (c .if1 .taken))
+    (λ c. (omega arith, refl))
+    (λ c. omega arith)
     returns-2
     returns-3
-    add-i
-    loop-less
+    (λ c. omega arith)
+    (λ c. omega arith)
     loop-again
-    returns-4)
+    (λ c. data-good _ _ (c .before .before .if1 .left) (c .before .loop .inv .1) (c .loop-test .left)))

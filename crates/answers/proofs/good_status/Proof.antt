@@ -4,14 +4,10 @@ use Rattle.answers.proofs.Framing.{by-bit, bit-7-set, bit-4-set}
 use Rattle.answers.proofs.good_status.Statement.{statement}
 use Rattle.answers.proofs.good_status.Tie as tie
 
-returns : tie.Need-returns
-returns c = bit-7-set _ (c .if1 .taken)
-
-returns-2 : tie.Need-returns-2
-returns-2 c = bit-4-set _ (c .if2 .taken)
-
-returns-3 : tie.Need-returns-3
-returns-3 c = by-bit _ (c .before .if1 .left) (c .if2 .left)
-
 pub good-status-spec : {M : Type 1} → statement M
-good-status-spec = tie.close (tie.spec returns returns-2 returns-3)
+good-status-spec =
+    tie.close
+    (tie.spec
+    (λ c. bit-7-set _ (c .if1 .taken))
+    (λ c. bit-4-set _ (c .if2 .taken))
+    (λ c. by-bit _ (c .before .if1 .left) (c .if2 .left)))

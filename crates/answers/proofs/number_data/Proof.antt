@@ -6,18 +6,6 @@ use Rattle.answers.proofs.Writing.{number-fits, number-is}
 use Rattle.answers.proofs.number_data.Statement.{statement}
 use Rattle.answers.proofs.number_data.Tie as tie
 
-slice-aggregate-write-number : tie.Need-slice-aggregate-write-number
-slice-aggregate-write-number c = search needs
-
-write-number-requires : tie.Need-write-number-requires
-write-number-requires c κs = search needs
-
-enum-known-length : tie.Need-enum-known-length
-enum-known-length c = search needs
-
-enum-told : tie.Need-enum-told
-enum-told c = search needs
-
 returns : tie.Need-returns
 returns c =
     let w = c .before .before .before .write-number in
@@ -32,9 +20,9 @@ pub number-data-spec : {M : Type 1} → statement M
 number-data-spec =
     tie.close
     (tie.spec
-    slice-aggregate-write-number
-    write-number-requires
-    enum-known-length
-    enum-told
+    (λ c. search needs)
+    (λ c κs. search needs)
+    (λ c. search needs)
+    (λ c. search needs)
     returns
     returns-2)

@@ -6,18 +6,6 @@ use Rattle.answers.proofs.OemLaws.{sum-made}
 use Rattle.answers.proofs.oem_sum.Statement.{statement}
 use Rattle.answers.proofs.oem_sum.Tie as tie
 
-with-byte-requires : tie.Need-with-byte-requires
-with-byte-requires c κs = search needs
-
-with-byte-requires-2 : tie.Need-with-byte-requires-2
-with-byte-requires-2 c κs = search needs
-
-with-bytes-requires : tie.Need-with-bytes-requires
-with-bytes-requires c κs = search needs
-
-with-byte-requires-3 : tie.Need-with-byte-requires-3
-with-byte-requires-3 c κs = search needs
-
 returns : tie.Need-returns
 returns c =
     let data-summed = c .before in
@@ -30,8 +18,8 @@ pub oem-sum-spec : {M : Type 1} → statement M
 oem-sum-spec =
     tie.close
     (tie.spec
-    with-byte-requires
-    with-byte-requires-2
-    with-bytes-requires
-    with-byte-requires-3
+    (λ c κs. search needs)
+    (λ c κs. search needs)
+    (λ c κs. search needs)
+    (λ c κs. search needs)
     returns)

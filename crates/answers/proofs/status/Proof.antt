@@ -5,15 +5,6 @@ use Rattle.answers.specs.Packet.{statusOf}
 use Rattle.answers.proofs.status.Statement.{statement}
 use Rattle.answers.proofs.status.Tie as tie
 
-add-result : tie.Need-add-result
-add-result c = search needs
-
-add-result-2 : tie.Need-add-result-2
-add-result-2 c = search needs
-
-add-result-3 : tie.Need-add-result-3
-add-result-3 c = search needs
-
 returns : tie.Need-returns
 unfolding statusOf
 returns c = rw (c .if1 .taken)
@@ -23,4 +14,4 @@ unfolding statusOf
 returns-2 c = rw (c .if1 .left)
 
 pub status-spec : {M : Type 1} → statement M
-status-spec = tie.close (tie.spec add-result add-result-2 add-result-3 returns returns-2)
+status-spec = tie.close (tie.spec (λ c. search needs) (λ c. search needs) (λ c. search needs) returns returns-2)

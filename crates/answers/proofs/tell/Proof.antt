@@ -5,12 +5,6 @@ use Rattle.answers.specs.Reading.{toldOf}
 use Rattle.answers.proofs.tell.Statement.{statement}
 use Rattle.answers.proofs.tell.Tie as tie
 
-enum-known-inside : tie.Need-enum-known-inside
-enum-known-inside c = search needs
-
-enum-told : tie.Need-enum-told
-enum-told c = search needs
-
 returns : tie.Need-returns
 unfolding toldOf
 returns c = rw (c .enum-told .given .1)
@@ -20,4 +14,4 @@ unfolding toldOf
 returns-2 c = rw (c .before .inside .given .1)
 
 pub tell-spec : {M : Type 1} → statement M
-tell-spec = tie.close (tie.spec enum-known-inside enum-told returns returns-2)
+tell-spec = tie.close (tie.spec (λ c. search needs) (λ c. search needs) returns returns-2)

@@ -1,71 +1,16 @@
--- `answers::write_oem_packet` meets its contract: without room nothing is touched; with room head, data and tail, written in turn, are
--- the packet (`written-oem`). Assumes nothing.
+-- `answers::write_oem_packet` meets its contract: the frame around 02 and 03 with the checksum is the packet. Assumes nothing.
 use borrow.Author.Needs.{needs}
-use Rattle.answers.proofs.Writing.{too-long, no-oem-room, written-oem}
+use Rattle.answers.specs.Oem.{oemPacket, oemTail}
+use Rattle.answers.proofs.Writing.{packet-as}
 use Rattle.answers.proofs.write_oem_packet.Statement.{statement}
 use Rattle.answers.proofs.write_oem_packet.Tie as tie
 
 returns : tie.Need-returns
-returns c = too-long _ _ _ _ (c .if1 .taken)
-
-add-if2 : tie.Need-add-if2
-add-if2 c = search needs
-
-returns-2 : tie.Need-returns-2
-returns-2 c = no-oem-room _ _ _ (c .before .if1 .left) (c .if2 .taken)
-
-oem-sum-requires : tie.Need-oem-sum-requires
-oem-sum-requires c κs = search needs
-
-slice-aggregate-put-at : tie.Need-slice-aggregate-put-at
-slice-aggregate-put-at c = search needs
-
-put-at-requires : tie.Need-put-at-requires
-put-at-requires c κs = search needs
-
-put-at-requires-2 : tie.Need-put-at-requires-2
-put-at-requires-2 c κs = search needs
-
-add-put-at : tie.Need-add-put-at
-add-put-at c = search needs
-
-slice-aggregate-put-at-2 : tie.Need-slice-aggregate-put-at-2
-slice-aggregate-put-at-2 c = search needs
-
-put-at-requires-3 : tie.Need-put-at-requires-3
-put-at-requires-3 c κs = search needs
-
-add-t9 : tie.Need-add-t9
-add-t9 c = search needs
-
-same-length : tie.Need-same-length
-same-length c = search needs
-
-returns-3 : tie.Need-returns-3
-returns-3 c =
-    let tail-put = c .before .before in
-    let data-put = tail-put .before .before .before .before .before in
-    let head-put = data-put .before .before .before .before in
-    let summed = head-put .before .before .before in
-    let tests = summed .before in
-    written-oem (tests .before .if1 .left) (tests .if2 .left) (summed .oem-sum .ensures) (head-put .put-at .ensures)
-    (data-put .put-at2 .ensures)
-    (tail-put .put-at3 .ensures)
+unfolding oemPacket oemTail
+returns c =
+    let written = c .before .before in
+    packet-as {make = oemPacket} (rw (written .before .before .before .oem-sum .ensures)) (written .write-framed .ensures)
 
 pub write-oem-packet-spec : {M : Type 1} → statement M
 write-oem-packet-spec =
-    tie.close
-    (tie.spec
-    returns
-    add-if2
-    returns-2
-    oem-sum-requires
-    slice-aggregate-put-at
-    put-at-requires
-    put-at-requires-2
-    add-put-at
-    slice-aggregate-put-at-2
-    put-at-requires-3
-    add-t9
-    same-length
-    returns-3)
+    tie.close (tie.spec (λ c κs. search needs) (λ c. search needs) (λ c κs. search needs) (λ c. search needs) returns)

@@ -17,21 +17,6 @@ Inv-loop sum bytes s₀ i₀ s i = (i ≤ length bytes) × (sumFrom s₀ bytes �
 abbrev μ-loop : tie.MeasureT-loop
 μ-loop sum bytes s₀ i₀ s i = length bytes - i
 
-loop-holds : tie.Need-loop-holds Inv-loop μ-loop
-loop-holds c = (omega arith, refl)
-
-shared-slice-read-with-byte : tie.Need-shared-slice-read-with-byte Inv-loop μ-loop
-shared-slice-read-with-byte c = search needs
-
-with-byte-requires : tie.Need-with-byte-requires Inv-loop μ-loop
-with-byte-requires c κs = search needs
-
-add-i : tie.Need-add-i Inv-loop μ-loop
-add-i c = search needs
-
-loop-less : tie.Need-loop-less Inv-loop μ-loop
-loop-less c = search needs
-
 loop-again : tie.Need-loop-again Inv-loop μ-loop
 loop-again c =
     let at = c .before .before .before .loop in
@@ -50,10 +35,10 @@ with-bytes-spec =
     (tie.spec
     Inv-loop
     μ-loop
-    loop-holds
-    shared-slice-read-with-byte
-    with-byte-requires
-    add-i
-    loop-less
+    (λ c. (omega arith, refl))
+    (λ c. search needs)
+    (λ c κs. search needs)
+    (λ c. search needs)
+    (λ c. search needs)
     loop-again
     returns)

@@ -5,9 +5,6 @@ use Rattle.commands.proofs.ReadingLaws.{end-by, read-fitted}
 use Rattle.commands.proofs.read_by.Statement.{statement}
 use Rattle.commands.proofs.read_by.Tie as tie
 
-returns : tie.Need-returns
-returns c = sym (end-by _ _ _ (c .if1 .taken))
-
 returns-2 : tie.Need-returns-2
 returns-2 c =
     rw (c .numbered .ensures, c .before .before .before .before .before .row-of .ensures .commands _)
@@ -35,7 +32,7 @@ pub read-by-spec : {M : Type 1} → statement M
 read-by-spec =
     tie.close
     (tie.spec
-    returns
+    (λ c. sym (end-by _ _ _ (c .if1 .taken)))
     (λ c. search needs)
     (λ c κs. search needs)
     (λ c. search needs)

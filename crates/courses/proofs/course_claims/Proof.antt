@@ -6,7 +6,7 @@ use Rattle.digits.specs.Operand.{digitRun, valueAfter, operandOf, operandAt, op
 use Rattle.commands.specs.Table.{table, find, asksOf, commandOf, oneOf, powerIn, exponentOf, within}
 use Rattle.commands.specs.Reading.{readBy}
 use Rattle.lines.specs.Texts.{unplaced, readingIn, readingBy}
-use Rattle.lines.specs.Examples.{bytes}
+use Rattle.parts.specs.Letters.{bytes}
 use Rattle.courses.specs.Meaning.{tailOf, courseOf, times, unrolled, cost, courseIn, commandsIn}
 use Rattle.courses.specs.Claims.{outerRound}
 use Rattle.courses.proofs.CourseLaws.{is-course, one-course, text-course}
@@ -16,11 +16,11 @@ use Rattle.courses.proofs.course_claims.Statement.{statement}
 use Rattle.courses.proofs.course_claims.Tie as tie
 
 example : commandsIn (bytes "gP5gD1G2G3") ≡ 22
-unfolding tailOf courseOf cost courseIn commandsIn bytes unplaced readingIn readingBy readBy table find asksOf commandOf oneOf powerIn exponentOf within operandUpTo operandAt operandOf digitRun valueAfter
+unfolding tailOf courseOf cost courseIn commandsIn unplaced readingIn readingBy readBy table find asksOf commandOf oneOf powerIn exponentOf within operandUpTo operandAt operandOf digitRun valueAfter
 example = refl
 
 example-run : unrolled (courseIn (bytes "gP5gD1G2G3")) ≡ LoopBegin ∷ (outerRound ++ (outerRound ++ outerRound))
-unfolding tailOf courseOf times unrolled courseIn bytes unplaced readingIn readingBy readBy table find asksOf commandOf oneOf powerIn exponentOf within operandUpTo operandAt operandOf digitRun valueAfter
+unfolding tailOf courseOf times unrolled courseIn unplaced readingIn readingBy readBy table find asksOf commandOf oneOf powerIn exponentOf within operandUpTo operandAt operandOf digitRun valueAfter
 example-run = refl
 
 returns : tie.Need-returns

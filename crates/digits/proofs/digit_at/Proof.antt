@@ -5,24 +5,13 @@ use Rattle.digits.proofs.Reading.{digit-past, digit-below, digit-over, 
 use Rattle.digits.proofs.digit_at.Statement.{statement}
 use Rattle.digits.proofs.digit_at.Tie as tie
 
-returns : tie.Need-returns
-returns c = digit-past _ _ (c .if1 .taken)
-
-shared-slice-read-b : tie.Need-shared-slice-read-b
-shared-slice-read-b c = search needs
-
-returns-2 : tie.Need-returns-2
-returns-2 c = digit-below _ _ (c .before .before .if1 .left) (c .if2 .taken)
-
-returns-3 : tie.Need-returns-3
-returns-3 c = digit-over _ _ (c .before .before .before .if1 .left) (c .before .if2 .left) (c .if3 .taken)
-
-cast-result : tie.Need-cast-result
-cast-result c = search needs
-
-returns-4 : tie.Need-returns-4
-returns-4 c = digit-is _ _ (c .before .before .before .if1 .left) (c .before .if2 .left) (c .if3 .left)
-
 pub digit-at-spec : {M : Type 1} → statement M
 digit-at-spec =
-    tie.close (tie.spec returns shared-slice-read-b returns-2 returns-3 cast-result returns-4)
+    tie.close
+    (tie.spec
+    (λ c. digit-past _ _ (c .if1 .taken))
+    (λ c. search needs)
+    (λ c. digit-below _ _ (c .before .before .if1 .left) (c .if2 .taken))
+    (λ c. digit-over _ _ (c .before .before .before .if1 .left) (c .before .if2 .left) (c .if3 .taken))
+    (λ c. search needs)
+    (λ c. digit-is _ _ (c .before .before .before .if1 .left) (c .before .if2 .left) (c .if3 .left)))

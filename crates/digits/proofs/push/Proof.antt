@@ -4,17 +4,5 @@ use native.Mathlib.Omega.{arith}
 use Rattle.digits.proofs.push.Statement.{statement}
 use Rattle.digits.proofs.push.Tie as tie
 
-mul-w : tie.Need-mul-w
-mul-w c = omega arith
-
-add-w : tie.Need-add-w
-add-w c = omega arith
-
-returns : tie.Need-returns
-returns c = omega arith
-
-returns-2 : tie.Need-returns-2
-returns-2 c = omega arith
-
 pub push-spec : {M : Type 1} → statement M
-push-spec = tie.close (tie.spec mul-w add-w returns returns-2)
+push-spec = tie.close (tie.spec (λ c. omega arith) (λ c. omega arith) (λ c. omega arith) (λ c. omega arith))

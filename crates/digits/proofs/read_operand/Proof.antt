@@ -16,24 +16,6 @@ Inv-loop s at i₀ v₀ d₀ i v d = Reading s at i v d
 abbrev μ-loop : tie.MeasureT-loop
 μ-loop s at i₀ v₀ d₀ i v d = length s - i
 
-digit-at-requires : tie.Need-digit-at-requires Inv-loop μ-loop
-digit-at-requires c κs = search needs
-
-loop-holds : tie.Need-loop-holds Inv-loop μ-loop
-loop-holds c = record { digit = c .digit-at .ensures; small = omega arith; past = refl; same = refl }
-
-push-requires : tie.Need-push-requires Inv-loop μ-loop
-push-requires c κs = omega arith
-
-add-i : tie.Need-add-i Inv-loop μ-loop
-add-i c = omega (arith, within _ _ _ _ _ (c .before .before .loop .inv) (c .before .loop-test .taken))
-
-digit-at-requires-2 : tie.Need-digit-at-requires-2 Inv-loop μ-loop
-digit-at-requires-2 c κs = search needs
-
-loop-less : tie.Need-loop-less Inv-loop μ-loop
-loop-less c = omega (arith, within _ _ _ _ _ (c .before .before .before .loop .inv) (c .before .before .loop-test .taken))
-
 loop-again : tie.Need-loop-again Inv-loop μ-loop
 loop-again c =
     next _ _ _ _ _ _ _ (c .before .before .before .loop .inv) (c .before .before .loop-test .taken) (c .before .push .ensures) (c .digit-at2 .ensures)
@@ -41,9 +23,6 @@ loop-again c =
 returns : tie.Need-returns Inv-loop μ-loop
 unfolding operandAt
 returns c = at-missing _ _ _ (c .if1 .taken) (past-run _ _ _ _ _ (c .before .before .loop .inv) (c .before .loop-test .left) .0)
-
-cast-t9 : tie.Need-cast-t9 Inv-loop μ-loop
-cast-t9 c = omega arith
 
 returns-2 : tie.Need-returns-2 Inv-loop μ-loop
 unfolding operandAt
@@ -63,14 +42,14 @@ read-operand-spec =
     (tie.spec
     Inv-loop
     μ-loop
-    digit-at-requires
-    loop-holds
-    push-requires
-    add-i
-    digit-at-requires-2
-    loop-less
+    (λ c κs. search needs)
+    (λ c. record { digit = c .digit-at .ensures; small = omega arith; past = refl; same = refl })
+    (λ c κs. omega arith)
+    (λ c. omega (arith, within _ _ _ _ _ (c .before .before .loop .inv) (c .before .loop-test .taken)))
+    (λ c κs. search needs)
+    (λ c. omega (arith, within _ _ _ _ _ (c .before .before .before .loop .inv) (c .before .before .loop-test .taken)))
     loop-again
     returns
-    cast-t9
+    (λ c. omega arith)
     returns-2
     returns-3)

@@ -10,16 +10,10 @@ limited-requires : tie.Need-limited-requires
 limited-requires c κs =
     let h = number-past _ _ _ _ (sym (c .before .before .before .read-operand .ensures) ∙ c .before .operand .given .1) in omega arith
 
-returns : tie.Need-returns
-returns c = limit-missing _ _ _ (sym (c .before .before .read-operand .ensures) ∙ c .enum-told .given .1)
-
 returns-2 : tie.Need-returns-2
 returns-2 c =
     c .limited .ensures
     ∙ limit-number _ _ _ _ _ (sym (c .before .before .before .before .read-operand .ensures) ∙ c .before .before .operand .given .1)
-
-returns-3 : tie.Need-returns-3
-returns-3 c = limit-above _ _ _ _ (sym (c .before .before .before .read-operand .ensures) ∙ c .before .operand2 .given .1)
 
 pub read-up-to-spec : {M : Type 1} → statement M
 read-up-to-spec =
@@ -30,6 +24,6 @@ read-up-to-spec =
     (λ c. search needs)
     limited-requires
     (λ c. search needs)
-    returns
+    (λ c. limit-missing _ _ _ (sym (c .before .before .read-operand .ensures) ∙ c .enum-told .given .1))
     returns-2
-    returns-3)
+    (λ c. limit-above _ _ _ _ (sym (c .before .before .before .read-operand .ensures) ∙ c .before .operand2 .given .1)))

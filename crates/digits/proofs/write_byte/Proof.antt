@@ -14,19 +14,10 @@ returns c =
     let a = c .before .args in
     is-refused (a .buffer .now) (a .at) (a .b ∷ []) (omega arith)
 
-slice-write-buffer : tie.Need-slice-write-buffer
-slice-write-buffer c = search needs
-
-add-t4 : tie.Need-add-t4
-add-t4 c = search needs
-
-same-length : tie.Need-same-length
-same-length c = search needs
-
 returns-2 : tie.Need-returns-2
 returns-2 c =
     let a = c .before .args in
     is-written (a .buffer .now) (a .at) (a .b ∷ []) (omega arith) refl (set-put (a .buffer .now) (a .at) (a .b) (c .if1 .left))
 
 pub write-byte-spec : {M : Type 1} → statement M
-write-byte-spec = tie.close (tie.spec returns slice-write-buffer add-t4 same-length returns-2)
+write-byte-spec = tie.close (tie.spec returns (λ c. search needs) (λ c. search needs) (λ c. search needs) returns-2)

@@ -1,6 +1,6 @@
 -- `effects::effect_claims`: each claim is a law. Assumes nothing.
 use Rattle.effects.proofs.BodyLaws.{each-body}
-use Rattle.effects.proofs.TurnLaws.{start-defaults, starts-good, starts-held, feeds, serves, idles, idle, waits, commands, answers}
+use Rattle.effects.proofs.TurnLaws.{start-defaults, starts-good, starts-held, feeds, serves, idles, idle, waits, commands, answers, levels}
 use Rattle.effects.proofs.SpeedLaws as speed
 use Rattle.effects.proofs.effect_claims.Statement.{statement}
 use Rattle.effects.proofs.effect_claims.Tie as tie
@@ -18,6 +18,7 @@ returns c = record {
   waits = waits;
   commands = commands;
   answers = answers;
+  levels = levels;
   speed = record { sets = speed.sets; stays = speed.stays; only = speed.only; busy = speed.busy; told = speed.told };
 }
 

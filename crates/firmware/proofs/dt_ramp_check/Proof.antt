@@ -2,7 +2,7 @@
 use mathlib.Core.Path.{ap, _∙_}
 use borrow.Author.Needs.{needs}
 use Rattle.ramp.specs.declared.Figures.{Figures}
-use Rattle.ramp.specs.Ramp.{codeOf}
+use Rattle.ramp.specs.Ramp.{verdictNumber}
 use Rattle.firmware.specs.Port.{rampNumber}
 use Rattle.firmware.proofs.dt_ramp_check.Statement.{statement}
 use Rattle.firmware.proofs.dt_ramp_check.Tie as tie
@@ -14,4 +14,4 @@ dt-ramp-check-spec =
     (tie.spec
     (λ c κs. search needs)
     (λ c κs. search needs)
-    (λ c. c .code .ensures ∙ ap (λ (f : Figures). codeOf (f .verdict)) (c .before .figures-of .ensures)))
+    (λ c. c .code .ensures ∙ ap (λ (f : Figures). verdictNumber (f .verdict)) (c .before .figures-of .ensures)))

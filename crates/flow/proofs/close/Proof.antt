@@ -32,9 +32,6 @@ returns-2 c =
       runs-again _ _ left (c .before .before .if2 .taken),
     )
 
-returns-3 : tie.Need-returns-3
-returns-3 c = simp (← c .before .done-of .ensures, has-run _ _ (c .before .before .if1 .left) (c .if2 .left))
-
 pub close-spec : {M : Type 1} → statement M
 close-spec =
     tie.close
@@ -47,4 +44,4 @@ close-spec =
     (λ c κs. search needs)
     (λ c κs. search needs)
     returns-2
-    returns-3)
+    (λ c. simp (← c .before .done-of .ensures, has-run _ _ (c .before .before .if1 .left) (c .if2 .left))))

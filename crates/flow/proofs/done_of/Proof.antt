@@ -5,9 +5,6 @@ use borrow.Author.Needs.{needs}
 use Rattle.flow.proofs.done_of.Statement.{statement}
 use Rattle.flow.proofs.done_of.Tie as tie
 
-returns-4 : tie.Need-returns-4
-returns-4 c = let three : c .before .before .args .d ≡ 3 = omega arith in rw three
-
 pub done-of-spec : {M : Type 1} → statement M
 done-of-spec =
     tie.close
@@ -19,4 +16,4 @@ done-of-spec =
     (λ c. rw (c .before .match .keys1))
     (λ c. rw (c .before .match .keys2))
     (λ c. rw (c .before .match .keys3))
-    returns-4)
+    (λ c. let three : c .before .before .args .d ≡ 3 = omega arith in rw three))

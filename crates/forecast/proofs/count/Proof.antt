@@ -5,21 +5,6 @@ use Rattle.forecast.proofs.BodyLaws.{body-refused, body-none, body-line
 use Rattle.forecast.proofs.count.Statement.{statement}
 use Rattle.forecast.proofs.count.Tie as tie
 
-returns : tie.Need-returns
-returns c = body-refused _ _ (sym (c .before .before .before .body-of .ensures) ∙ c .before .kind .given .1)
-
-returns-2 : tie.Need-returns-2
-returns-2 c = body-none _ _ (sym (c .before .before .body-of .ensures) ∙ c .enum-told .given .1) refl refl
-
-returns-3 : tie.Need-returns-3
-returns-3 c = body-none _ _ (sym (c .before .before .body-of .ensures) ∙ c .enum-told2 .given .1) refl refl
-
-returns-4 : tie.Need-returns-4
-returns-4 c = body-none _ _ (sym (c .before .before .body-of .ensures) ∙ c .enum-told3 .given .1) refl refl
-
-returns-5 : tie.Need-returns-5
-returns-5 c = body-none _ _ (sym (c .before .before .body-of .ensures) ∙ c .enum-told4 .given .1) refl refl
-
 returns-6 : tie.Need-returns-6
 returns-6 c = c .count-line .ensures ∙ body-line _ (sym (c .before .before .before .body-of .ensures) ∙ c .before .enum-told5 .given .1)
 
@@ -35,9 +20,9 @@ count-spec =
     (λ c. search needs)
     (λ c. search needs)
     (λ c κs. search needs)
-    returns
-    returns-2
-    returns-3
-    returns-4
-    returns-5
+    (λ c. body-refused _ _ (sym (c .before .before .before .body-of .ensures) ∙ c .before .kind .given .1))
+    (λ c. body-none _ _ (sym (c .before .before .body-of .ensures) ∙ c .enum-told .given .1) refl refl)
+    (λ c. body-none _ _ (sym (c .before .before .body-of .ensures) ∙ c .enum-told2 .given .1) refl refl)
+    (λ c. body-none _ _ (sym (c .before .before .body-of .ensures) ∙ c .enum-told3 .given .1) refl refl)
+    (λ c. body-none _ _ (sym (c .before .before .body-of .ensures) ∙ c .enum-told4 .given .1) refl refl)
     returns-6)

@@ -5,17 +5,11 @@ use borrow.Author.Tests.{eq-eqb, ne-eqb}
 use Rattle.frames.proofs.add.Statement.{statement}
 use Rattle.frames.proofs.add.Tie as tie
 
-finish-requires : tie.Need-finish-requires
-finish-requires c κs = search needs
-
-returns : tie.Need-returns
-returns c = simp (eq-eqb _ _ (c .before .if1 .taken)) (c .finish .ensures _)
-
-store-requires : tie.Need-store-requires
-store-requires c κs = search needs
-
-returns-2 : tie.Need-returns-2
-returns-2 c = simp (ne-eqb _ _ (c .before .before .if1 .left)) (c .store .ensures)
-
 pub add-spec : {M : Type 1} → statement M
-add-spec = tie.close (tie.spec finish-requires returns store-requires returns-2)
+add-spec =
+    tie.close
+    (tie.spec
+    (λ c κs. search needs)
+    (λ c. simp (eq-eqb _ _ (c .before .if1 .taken)) (c .finish .ensures _))
+    (λ c κs. search needs)
+    (λ c. simp (ne-eqb _ _ (c .before .before .if1 .left)) (c .store .ensures)))

@@ -8,37 +8,16 @@ use Rattle.frames.proofs.Stream.{turned}
 use Rattle.frames.proofs.advance.Statement.{statement}
 use Rattle.frames.proofs.advance.Tie as tie
 
-inside-requires : tie.Need-inside-requires
-inside-requires c κs = search needs
-
 keep-requires : tie.Need-keep-requires
 keep-requires c κs = (
   c .before .before .before .before .pre,
   sym (c .before .before .inside .ensures) ∙ c .before .if1 .taken,
 )
 
-returns : tie.Need-returns
-returns c = c .keep .ensures _
-
-outside-requires : tie.Need-outside-requires
-outside-requires c κs = search needs
-
-look-out-requires : tie.Need-look-out-requires
-look-out-requires c κs = search needs
-
 returns-2 : tie.Need-returns-2
 returns-2 c =
     let there = only-outside (c .before .before .before .before .before .before .args .h .place) (sym (c .before .before .outside .ensures) ∙ c .before .if2 .taken) in
     rw there (c .look-out .ensures _ _)
-
-shared-slice-read-b : tie.Need-shared-slice-read-b
-shared-slice-read-b c = search needs
-
-step-requires : tie.Need-step-requires
-step-requires c κs = search needs
-
-add-t16 : tie.Need-add-t16
-add-t16 c = search needs
 
 returns-3 : tie.Need-returns-3
 returns-3 c =
@@ -49,13 +28,13 @@ pub advance-spec : {M : Type 1} → statement M
 advance-spec =
     tie.close
     (tie.spec
-    inside-requires
+    (λ c κs. search needs)
     keep-requires
-    returns
-    outside-requires
-    look-out-requires
+    (λ c. c .keep .ensures _)
+    (λ c κs. search needs)
+    (λ c κs. search needs)
     returns-2
-    shared-slice-read-b
-    step-requires
-    add-t16
+    (λ c. search needs)
+    (λ c κs. search needs)
+    (λ c. search needs)
     returns-3)

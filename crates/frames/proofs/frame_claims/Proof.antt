@@ -6,8 +6,8 @@ use mathlib.Core.Path.{refl}
 use mathlib.Core.List.{[], _∷_, _++_}
 use Rattle.checksum.specs.Checksum.{xor, example₁, example₂}
 use Rattle.frames.specs.Addresses.{unitByte, pairs, fours, pairOf, fourOf, calledOf}
-use Rattle.frames.specs.Receive.{Receiver, stored, heard, stepOf, receiveOf}
-use Rattle.frames.specs.Claims.{AddressClaims, ReceiveClaims, Example, received₁}
+use Rattle.frames.specs.Receive.{Receiver, stored, heard, byteReceived, receiveOf}
+use Rattle.frames.specs.Claims.{AddressClaims, ReceiveClaims, OemExample, received₁}
 use Rattle.frames.proofs.Steps.{skipped, begins-plain, begins-oem}
 use Rattle.frames.proofs.Addresses.{own, alone, in-pairs, in-fours, in-all, others, low, no-unit}
 use Rattle.frames.proofs.Stream.{cut, rest, first, outside, untold, all-given, at-most, sound}
@@ -54,12 +54,12 @@ receiving r u =
       sound = sound r u;
     }
 
-first-example : Example example₁ (received₁ (example₁ ++ (0x23 ∷ [])))
-unfolding receiveOf stepOf calledOf pairOf fourOf pairs fours stored heard xor
+first-example : OemExample example₁ (received₁ (example₁ ++ (0x23 ∷ [])))
+unfolding receiveOf byteReceived calledOf pairOf fourOf pairs fours stored heard xor
 first-example = record { alone = refl; framed = refl; count = refl; body-is = refl }
 
-second-example : Example example₂ (received₁ (example₂ ++ (0x43 ∷ [])))
-unfolding receiveOf stepOf calledOf pairOf fourOf pairs fours stored heard xor
+second-example : OemExample example₂ (received₁ (example₂ ++ (0x43 ∷ [])))
+unfolding receiveOf byteReceived calledOf pairOf fourOf pairs fours stored heard xor
 second-example = record { alone = refl; framed = refl; count = refl; body-is = refl }
 
 returns : tie.Need-returns

@@ -22,24 +22,6 @@ Inv-loop place kept body₀ bytes i n₀ next₀ body n next =
 abbrev μ-loop : tie.MeasureT-loop
 μ-loop place kept body₀ bytes i n₀ next₀ body n next = length bytes - next
 
-loop-holds : tie.Need-loop-holds Inv-loop μ-loop
-loop-holds c = (omega arith, omega arith, λ u. refl)
-
-shared-slice-read-b : tie.Need-shared-slice-read-b Inv-loop μ-loop
-shared-slice-read-b c = search needs
-
-add-next : tie.Need-add-next Inv-loop μ-loop
-add-next c = search needs
-
-leaves-requires : tie.Need-leaves-requires Inv-loop μ-loop
-leaves-requires c κs = search needs
-
-completes-requires : tie.Need-completes-requires Inv-loop μ-loop
-completes-requires c κs = search needs
-
-leave-requires : tie.Need-leave-requires Inv-loop μ-loop
-leave-requires c κs = sym (c .before .before .leaves .ensures) ∙ c .before .if1 .taken
-
 returns : tie.Need-returns Inv-loop μ-loop
 returns c u =
     let k = c .before .before .before .before .before .before .loop in
@@ -49,15 +31,6 @@ returns c u =
       turned _ _ u _ (omega arith) (k .inv .2 u)
           (leaves-by _ _ _ u _ inside (c .before .completes .ensures) (c .leave .ensures _ _)) refl,
     )
-
-element-write-body : tie.Need-element-write-body Inv-loop μ-loop
-element-write-body c = search needs
-
-add-n : tie.Need-add-n Inv-loop μ-loop
-add-n c = search needs
-
-loop-less : tie.Need-loop-less Inv-loop μ-loop
-loop-less c = search needs
 
 loop-again : tie.Need-loop-again Inv-loop μ-loop
 loop-again c =
@@ -71,9 +44,6 @@ loop-again c =
           (stays-kept _ _ _ u _ inside stay (c .if2 .taken)) refl,
     )
 
-loop-less-2 : tie.Need-loop-less-2 Inv-loop μ-loop
-loop-less-2 c = search needs
-
 loop-again-2 : tie.Need-loop-again-2 Inv-loop μ-loop
 loop-again-2 c =
     let k = c .before .before .before .before .before .loop in
@@ -86,9 +56,6 @@ loop-again-2 c =
           (stays-full _ _ _ u _ inside stay (c .if2 .left)) refl,
     )
 
-at-requires : tie.Need-at-requires Inv-loop μ-loop
-at-requires c κs = search needs
-
 returns-2 : tie.Need-returns-2 Inv-loop μ-loop
 returns-2 c u =
     let k = c .before .before .loop in
@@ -100,18 +67,18 @@ keep-spec =
     (tie.spec
     Inv-loop
     μ-loop
-    loop-holds
-    shared-slice-read-b
-    add-next
-    leaves-requires
-    completes-requires
-    leave-requires
+    (λ c. (omega arith, omega arith, λ u. refl))
+    (λ c. search needs)
+    (λ c. search needs)
+    (λ c κs. search needs)
+    (λ c κs. search needs)
+    (λ c κs. sym (c .before .before .leaves .ensures) ∙ c .before .if1 .taken)
     returns
-    element-write-body
-    add-n
-    loop-less
+    (λ c. search needs)
+    (λ c. search needs)
+    (λ c. search needs)
     loop-again
-    loop-less-2
+    (λ c. search needs)
     loop-again-2
-    at-requires
+    (λ c κs. search needs)
     returns-2)

@@ -2,25 +2,10 @@
 -- Assumes nothing.
 use borrow.Author.Needs.{needs}
 use borrow.Author.Tests.{eq-eqb, ne-eqb}
-use Rattle.frames.specs.Receive.{slash, stx}
+use Rattle.parts.specs.Letters.{slash, stx}
 use Rattle.frames.proofs.Runs.{leaves-cr}
 use Rattle.frames.proofs.leave.Statement.{statement}
 use Rattle.frames.proofs.leave.Tie as tie
-
-at-requires : tie.Need-at-requires
-at-requires c κs = search needs
-
-returns : tie.Need-returns
-returns c p body = simp (c .at .ensures, eq-eqb _ _ (c .before .if1 .taken))
-
-at-requires-2 : tie.Need-at-requires-2
-at-requires-2 c κs = search needs
-
-returns-2 : tie.Need-returns-2
-returns-2 c p body = simp (c .at2 .ensures, eq-eqb _ _ (c .before .if2 .taken), ne-eqb _ _ (c .before .before .if1 .left))
-
-finish-requires : tie.Need-finish-requires
-finish-requires c κs = search needs
 
 returns-3 : tie.Need-returns-3
 returns-3 c p body =
@@ -31,4 +16,11 @@ returns-3 c p body =
 
 pub leave-spec : {M : Type 1} → statement M
 leave-spec =
-    tie.close (tie.spec at-requires returns at-requires-2 returns-2 finish-requires returns-3)
+    tie.close
+    (tie.spec
+    (λ c κs. search needs)
+    (λ c p body. simp (c .at .ensures, eq-eqb _ _ (c .before .if1 .taken)))
+    (λ c κs. search needs)
+    (λ c p body. simp (c .at2 .ensures, eq-eqb _ _ (c .before .if2 .taken), ne-eqb _ _ (c .before .before .if1 .left)))
+    (λ c κs. search needs)
+    returns-3)

@@ -7,7 +7,7 @@ use mathlib.Core.Path.{_≡_, refl, sym, ap, _∙_}
 use mathlib.Core.List.{List}
 use lib.ListN.{length, drop}
 use Rattle.frames.specs.declared.Place.{Place}
-use Rattle.frames.specs.Receive.{receiverAt, past, receiveOf, stepOf}
+use Rattle.frames.specs.Receive.{receiverAt, past, receiveOf, byteReceived}
 use Rattle.frames.proofs.Steps.{begins-plain, begins-oem, skipped}
 use Rattle.frames.proofs.Stream.{turned}
 use Rattle.frames.proofs.look_out.Statement.{statement}
@@ -24,29 +24,14 @@ Inv-loop kept bytes i next₀ next =
 abbrev μ-loop : tie.MeasureT-loop
 μ-loop kept bytes i next₀ next = length bytes - next
 
-loop-holds : tie.Need-loop-holds Inv-loop μ-loop
-loop-holds c = (omega arith, omega arith, λ u body. refl)
-
-shared-slice-read-b : tie.Need-shared-slice-read-b Inv-loop μ-loop
-shared-slice-read-b c = search needs
-
-add-next : tie.Need-add-next Inv-loop μ-loop
-add-next c = search needs
-
-at-requires : tie.Need-at-requires Inv-loop μ-loop
-at-requires c κs = search needs
-
 returns : tie.Need-returns Inv-loop μ-loop
 returns c u body =
     let k = c .before .before .before .before .loop in
     simp (c .at .ensures) (
       omega (arith, k .inv .0),
       omega arith,
-      turned _ _ u _ (omega arith) (k .inv .2 u body) (sym (ap (stepOf _ u) (c .before .if1 .taken) ∙ begins-plain _ u refl)) refl,
+      turned _ _ u _ (omega arith) (k .inv .2 u body) (sym (ap (byteReceived _ u) (c .before .if1 .taken) ∙ begins-plain _ u refl)) refl,
     )
-
-at-requires-2 : tie.Need-at-requires-2 Inv-loop μ-loop
-at-requires-2 c κs = search needs
 
 returns-2 : tie.Need-returns-2 Inv-loop μ-loop
 returns-2 c u body =
@@ -54,11 +39,8 @@ returns-2 c u body =
     simp (c .at2 .ensures) (
       omega (arith, k .inv .0),
       omega arith,
-      turned _ _ u _ (omega arith) (k .inv .2 u body) (sym (ap (stepOf _ u) (c .before .if2 .taken) ∙ begins-oem _ u refl)) refl,
+      turned _ _ u _ (omega arith) (k .inv .2 u body) (sym (ap (byteReceived _ u) (c .before .if2 .taken) ∙ begins-oem _ u refl)) refl,
     )
-
-loop-less : tie.Need-loop-less Inv-loop μ-loop
-loop-less c = search needs
 
 loop-again : tie.Need-loop-again Inv-loop μ-loop
 loop-again c =
@@ -68,9 +50,6 @@ loop-again c =
       λ u body.
           turned _ _ u _ (omega arith) (k .inv .2 u body) (sym (skipped _ u _ refl (c .before .if1 .left) (c .if2 .left))) refl,
     )
-
-at-requires-3 : tie.Need-at-requires-3 Inv-loop μ-loop
-at-requires-3 c κs = search needs
 
 returns-3 : tie.Need-returns-3 Inv-loop μ-loop
 returns-3 c u body =
@@ -83,14 +62,14 @@ look-out-spec =
     (tie.spec
     Inv-loop
     μ-loop
-    loop-holds
-    shared-slice-read-b
-    add-next
-    at-requires
+    (λ c. (omega arith, omega arith, λ u body. refl))
+    (λ c. search needs)
+    (λ c. search needs)
+    (λ c κs. search needs)
     returns
-    at-requires-2
+    (λ c κs. search needs)
     returns-2
-    loop-less
+    (λ c. search needs)
     loop-again
-    at-requires-3
+    (λ c κs. search needs)
     returns-3)

@@ -6,31 +6,16 @@ use mathlib.Core.Bool.{_&&_}
 use native.Mathlib.Omega.{arith}
 use lib.ListN.{drop}
 use borrow.Author.Needs.{needs}
-use Rattle.image.specs.Image.{zeros}
+use Rattle.image.specs.Image.{allZeros}
 use Rattle.image.proofs.SlotLaws.{zeros-more, zeros-end}
 use Rattle.image.proofs.all_zero.Statement.{statement}
 use Rattle.image.proofs.all_zero.Tie as tie
 
 abbrev Inv-loop : tie.InvT-loop
-Inv-loop bytes clean₀ i₀ i-end clean i = (i ≤ i-end) × (zeros bytes ≡ clean && zeros (drop i bytes))
+Inv-loop bytes clean₀ i₀ i-end clean i = (i ≤ i-end) × (allZeros bytes ≡ clean && allZeros (drop i bytes))
 
 abbrev μ-loop : tie.MeasureT-loop
 μ-loop bytes clean₀ i₀ i-end clean i = i-end - i
-
-loop-holds : tie.Need-loop-holds Inv-loop μ-loop
-loop-holds c = (zero-le, refl)
-
-shared-slice-read-zero-too : tie.Need-shared-slice-read-zero-too Inv-loop μ-loop
-shared-slice-read-zero-too c = omega arith
-
-zero-too-requires : tie.Need-zero-too-requires Inv-loop μ-loop
-zero-too-requires c κs = search needs
-
-add-i : tie.Need-add-i Inv-loop μ-loop
-add-i c = omega arith
-
-loop-less : tie.Need-loop-less Inv-loop μ-loop
-loop-less c = omega arith
 
 loop-again : tie.Need-loop-again Inv-loop μ-loop
 loop-again c =
@@ -49,10 +34,10 @@ all-zero-spec =
     (tie.spec
     Inv-loop
     μ-loop
-    loop-holds
-    shared-slice-read-zero-too
-    zero-too-requires
-    add-i
-    loop-less
+    (λ c. (zero-le, refl))
+    (λ c. omega arith)
+    (λ c κs. search needs)
+    (λ c. omega arith)
+    (λ c. omega arith)
     loop-again
     returns)

@@ -28,9 +28,6 @@ loop-holds : tie.Need-loop-holds Inv-loop μ-loop
 unfolding slotsBy
 loop-holds c = (zero-le, refl)
 
-slot-by-requires : tie.Need-slot-by-requires Inv-loop μ-loop
-slot-by-requires c κs = search needs
-
 returns-2 : tie.Need-returns-2 Inv-loop μ-loop
 unfolding checkedBy
 returns-2 c =
@@ -40,12 +37,6 @@ returns-2 c =
     let most = l .before .before .before .args .most in
     let bad = slots-bad most image (l .loop .slot) slots (omega arith) (sym (g .slot-by .ensures) ∙ not-true _ (c .if2 .taken)) in
     rw (eq-eqb (length image) imageBytes (l .before .if1 .left), bad)
-
-add-slot : tie.Need-add-slot Inv-loop μ-loop
-add-slot c = search needs
-
-loop-less : tie.Need-loop-less Inv-loop μ-loop
-loop-less c = search needs
 
 loop-again : tie.Need-loop-again Inv-loop μ-loop
 unfolding slotsBy
@@ -70,9 +61,9 @@ check-by-spec =
     μ-loop
     returns
     loop-holds
-    slot-by-requires
+    (λ c κs. search needs)
     returns-2
-    add-slot
-    loop-less
+    (λ c. search needs)
+    (λ c. search needs)
     loop-again
     returns-3)

@@ -19,21 +19,9 @@ Inv-loop image₀ slot₀ image slot = (slot ≤ slots) × (image ≡ put image�
 abbrev μ-loop : tie.MeasureT-loop
 μ-loop image₀ slot₀ image slot = slots - slot
 
-returns : tie.Need-returns Inv-loop μ-loop
-returns c = not-cleared (c .before .before .args .image .now) (c .if1 .taken)
-
 loop-holds : tie.Need-loop-holds Inv-loop μ-loop
 unfolding put emptyEntries
 loop-holds c = (zero-le, refl, refl)
-
-put-entry-requires : tie.Need-put-entry-requires Inv-loop μ-loop
-put-entry-requires c κs = search needs
-
-add-slot : tie.Need-add-slot Inv-loop μ-loop
-add-slot c = search needs
-
-loop-less : tie.Need-loop-less Inv-loop μ-loop
-loop-less c = search needs
 
 loop-again : tie.Need-loop-again Inv-loop μ-loop
 loop-again c =
@@ -41,15 +29,6 @@ loop-again c =
     let l = p .before .before .before in
     let image = l .before .before .before .args .image .now in
     (omega arith, p .put-entry .ensures ∙ rw (l .loop .inv .1) (entry-more image (l .loop .slot)), p .put-entry .kept .0 ∙ l .loop .inv .2)
-
-sub-wipe-at : tie.Need-sub-wipe-at Inv-loop μ-loop
-sub-wipe-at c = search needs
-
-wipe-at-requires : tie.Need-wipe-at-requires Inv-loop μ-loop
-wipe-at-requires c κs = search needs
-
-same-length : tie.Need-same-length Inv-loop μ-loop
-same-length c = c .before .before .wipe-at .kept .0 ∙ c .before .before .before .before .before .loop .inv .2
 
 returns-2 : tie.Need-returns-2 Inv-loop μ-loop
 returns-2 c =
@@ -68,13 +47,13 @@ clear-spec =
     (tie.spec
     Inv-loop
     μ-loop
-    returns
+    (λ c. not-cleared (c .before .before .args .image .now) (c .if1 .taken))
     loop-holds
-    put-entry-requires
-    add-slot
-    loop-less
+    (λ c κs. search needs)
+    (λ c. search needs)
+    (λ c. search needs)
     loop-again
-    sub-wipe-at
-    wipe-at-requires
-    same-length
+    (λ c. search needs)
+    (λ c κs. search needs)
+    (λ c. c .before .before .wipe-at .kept .0 ∙ c .before .before .before .before .before .loop .inv .2)
     returns-2)

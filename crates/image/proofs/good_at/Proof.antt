@@ -7,23 +7,17 @@ use native.Mathlib.Omega.{arith}
 use lib.ListN.{length, take, drop, length-drop}
 use lib.Seq.{take-all}
 use Rattle.lines.specs.Texts.{textGoodBy}
-use Rattle.image.specs.Image.{zeros, goodAt}
+use Rattle.image.specs.Image.{allZeros, goodAt}
 use Rattle.image.proofs.SlotLaws.{bad-start, bad-length, good-rest}
 use borrow.Author.Needs.{needs}
 use Rattle.image.proofs.good_at.Statement.{statement}
 use Rattle.image.proofs.good_at.Tie as tie
-
-word-at-requires : tie.Need-word-at-requires
-word-at-requires c κs = search needs
 
 returns : tie.Need-returns
 returns c =
     let w = c .before in
     let a = w .before .before .before .args in
     bad-start (a .most) (a .start) (a .entry .now) (a .body .now) (λ q. c .if1 .taken (w .word-at .ensures ∙ q))
-
-word-at-requires-2 : tie.Need-word-at-requires-2
-word-at-requires-2 c κs = search needs
 
 returns-2 : tie.Need-returns-2
 returns-2 c =
@@ -32,33 +26,9 @@ returns-2 c =
     let a = w .before .before .before .args in
     bad-length (a .most) (a .start) (a .entry .now) (a .body .now) (omega (arith, v .word-at2 .ensures)) (sym (w .word-at .ensures) ∙ v .before .if1 .left)
 
-sub-check-text-by : tie.Need-sub-check-text-by
-sub-check-text-by c = search needs
-
-part-check-text-by-start : tie.Need-part-check-text-by-start
-part-check-text-by-start c = search needs
-
-part-check-text-by-end : tie.Need-part-check-text-by-end
-part-check-text-by-end c = search needs
-
-check-text-by-requires : tie.Need-check-text-by-requires
-check-text-by-requires c κs = search needs
-
-sub-all-zero : tie.Need-sub-all-zero
-sub-all-zero c = search needs
-
-part-all-zero-start : tie.Need-part-all-zero-start
-part-all-zero-start c = search needs
-
-part-all-zero-end : tie.Need-part-all-zero-end
-part-all-zero-end c = search needs
-
-all-zero-requires : tie.Need-all-zero-requires
-all-zero-requires c κs = search needs
-
 -- the text is as long as the entry says
 rest : (c : tie.Else2) → let v = c .before in let a = v .before .before .before .before .before .args in
-    goodAt (a .most) (a .start) (a .entry .now) (a .body .now) ≡ textGoodBy (a .most) (take (v .word-at2 .result) (a .body .now)) && zeros (drop (v .word-at2 .result) (a .body .now))
+    goodAt (a .most) (a .start) (a .entry .now) (a .body .now) ≡ textGoodBy (a .most) (take (v .word-at2 .result) (a .body .now)) && allZeros (drop (v .word-at2 .result) (a .body .now))
 rest c =
     let v = c .before in
     let w = v .before .before in
@@ -93,17 +63,17 @@ pub good-at-spec : {M : Type 1} → statement M
 good-at-spec =
     tie.close
     (tie.spec
-    word-at-requires
+    (λ c κs. search needs)
     returns
-    word-at-requires-2
+    (λ c κs. search needs)
     returns-2
-    sub-check-text-by
-    part-check-text-by-start
-    part-check-text-by-end
-    check-text-by-requires
-    sub-all-zero
-    part-all-zero-start
-    part-all-zero-end
-    all-zero-requires
+    (λ c. search needs)
+    (λ c. search needs)
+    (λ c. search needs)
+    (λ c κs. search needs)
+    (λ c. search needs)
+    (λ c. search needs)
+    (λ c. search needs)
+    (λ c κs. search needs)
     returns-3
     returns-4)

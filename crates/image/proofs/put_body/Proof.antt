@@ -7,24 +7,6 @@ use borrow.Author.Needs.{needs}
 use Rattle.image.proofs.put_body.Statement.{statement}
 use Rattle.image.proofs.put_body.Tie as tie
 
-start-of-requires : tie.Need-start-of-requires
-start-of-requires c κs = search needs
-
-put-at-requires : tie.Need-put-at-requires
-put-at-requires c κs = search needs
-
-add-wipe-at : tie.Need-add-wipe-at
-add-wipe-at c = search needs
-
-sub-wipe-at : tie.Need-sub-wipe-at
-sub-wipe-at c = search needs
-
-wipe-at-requires : tie.Need-wipe-at-requires
-wipe-at-requires c κs = search needs
-
-same-length : tie.Need-same-length
-same-length c = search needs
-
 returns : tie.Need-returns
 returns c =
     let p = c .before .before .before .before .before .before in
@@ -36,10 +18,10 @@ pub put-body-spec : {M : Type 1} → statement M
 put-body-spec =
     tie.close
     (tie.spec
-    start-of-requires
-    put-at-requires
-    add-wipe-at
-    sub-wipe-at
-    wipe-at-requires
-    same-length
+    (λ c κs. search needs)
+    (λ c κs. search needs)
+    (λ c. search needs)
+    (λ c. search needs)
+    (λ c κs. search needs)
+    (λ c. search needs)
     returns)

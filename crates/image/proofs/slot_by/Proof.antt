@@ -14,15 +14,6 @@ returns c = wrong-length (c .before .before .args .most) (c .before .before .arg
 returns-2 : tie.Need-returns-2
 returns-2 c = no-slot (c .before .before .before .args .most) (c .before .before .before .args .image .now) (c .before .before .before .args .slot) (c .if2 .taken)
 
-start-of-requires : tie.Need-start-of-requires
-start-of-requires c κs = search needs
-
-entry-of-requires : tie.Need-entry-of-requires
-entry-of-requires c κs = search needs
-
-body-of-requires : tie.Need-body-of-requires
-body-of-requires c κs = search needs
-
 good-at-requires : tie.Need-good-at-requires
 good-at-requires c κs =
     let e = c .before in
@@ -48,8 +39,8 @@ slot-by-spec =
     (tie.spec
     returns
     returns-2
-    start-of-requires
-    entry-of-requires
-    body-of-requires
+    (λ c κs. search needs)
+    (λ c κs. search needs)
+    (λ c κs. search needs)
     good-at-requires
     returns-3)

@@ -10,9 +10,6 @@ use borrow.Author.Needs.{needs}
 use Rattle.image.proofs.slot_text.Statement.{statement}
 use Rattle.image.proofs.slot_text.Tie as tie
 
-slot-good-requires : tie.Need-slot-good-requires
-slot-good-requires c κs = search needs
-
 -- what the test of the slot says
 told : (c : tie.Then1) → let a = c .before .before .before .args in slotGood (a .image .now) (a .slot) ≡ true
 told c = sym (c .before .slot-good .ensures) ∙ c .if1 .taken
@@ -42,12 +39,6 @@ body-of-requires c κs =
     let s = good (c .before .before) in
     search needs
 
-sub-result : tie.Need-sub-result
-sub-result c = search needs
-
-part-result-start : tie.Need-part-result-start
-part-result-start c = search needs
-
 part-result-end : tie.Need-part-result-end
 part-result-end c =
     let w = c .before in
@@ -56,15 +47,6 @@ part-result-end c =
     let e = length-body (a .image .now) (a .slot) (s .long) (s .slot) in
     let n = length-read w in
     rw (c .body-of .ensures) (omega (arith, s .fits))
-
-sub-result-2 : tie.Need-sub-result-2
-sub-result-2 c = search needs
-
-part-result-start-2 : tie.Need-part-result-start-2
-part-result-start-2 c = search needs
-
-part-result-end-2 : tie.Need-part-result-end-2
-part-result-end-2 c = search needs
 
 returns : tie.Need-returns
 unfolding slotText
@@ -82,15 +64,15 @@ pub slot-text-spec : {M : Type 1} → statement M
 slot-text-spec =
     tie.close
     (tie.spec
-    slot-good-requires
+    (λ c κs. search needs)
     entry-of-requires
     word-at-requires
     body-of-requires
-    sub-result
-    part-result-start
+    (λ c. search needs)
+    (λ c. search needs)
     part-result-end
-    sub-result-2
-    part-result-start-2
-    part-result-end-2
+    (λ c. search needs)
+    (λ c. search needs)
+    (λ c. search needs)
     returns
     returns-2)

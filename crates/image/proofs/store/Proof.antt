@@ -32,15 +32,6 @@ returns-3 c =
     rw (eq-eqb _ imageBytes (c .before .before .if1 .left), lt-ltb _ slots (c .before .if2 .left), lt-leb (length (a .text .now)) bodyBytes (omega arith)) in
     stored-as (a .image .now) (a .slot) (a .text .now) Stored.TooLong long
 
-put-entry-requires : tie.Need-put-entry-requires
-put-entry-requires c κs = search needs
-
-put-body-requires : tie.Need-put-body-requires
-put-body-requires c κs = search needs
-
-same-length : tie.Need-same-length
-same-length c = search needs
-
 returns-4 : tie.Need-returns-4
 unfolding storedOf withText
 returns-4 c =
@@ -58,7 +49,7 @@ store-spec =
     returns
     returns-2
     returns-3
-    put-entry-requires
-    put-body-requires
-    same-length
+    (λ c κs. search needs)
+    (λ c κs. search needs)
+    (λ c. search needs)
     returns-4)

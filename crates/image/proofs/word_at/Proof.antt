@@ -8,21 +8,6 @@ use borrow.Author.Needs.{needs}
 use Rattle.image.proofs.word_at.Statement.{statement}
 use Rattle.image.proofs.word_at.Tie as tie
 
-shared-slice-read-low : tie.Need-shared-slice-read-low
-shared-slice-read-low c = search needs
-
-cast-low : tie.Need-cast-low
-cast-low c = omega (arith, c .shared-slice-known .given (c .before .args .at))
-
-add-high : tie.Need-add-high
-add-high c = search needs
-
-shared-slice-read-high : tie.Need-shared-slice-read-high
-shared-slice-read-high c = search needs
-
-cast-high : tie.Need-cast-high
-cast-high c = omega (arith, c .shared-slice-known2 .given (c .before .before .args .at + 1))
-
 mul-result : tie.Need-mul-result
 mul-result c = omega (arith, c .before .shared-slice-known .given (c .before .before .args .at), c .shared-slice-known2 .given (c .before .before .args .at + 1))
 
@@ -37,11 +22,11 @@ pub word-at-spec : {M : Type 1} → statement M
 word-at-spec =
     tie.close
     (tie.spec
-    shared-slice-read-low
-    cast-low
-    add-high
-    shared-slice-read-high
-    cast-high
+    (λ c. search needs)
+    (λ c. omega (arith, c .shared-slice-known .given (c .before .args .at)))
+    (λ c. search needs)
+    (λ c. search needs)
+    (λ c. omega (arith, c .shared-slice-known2 .given (c .before .before .args .at + 1)))
     mul-result
     add-result
     returns)

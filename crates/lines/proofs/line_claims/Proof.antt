@@ -9,7 +9,7 @@ use Rattle.commands.specs.Reading.{readBy}
 use Rattle.commands.proofs.ReadingLaws.{read-step}
 use Rattle.lines.specs.Texts.{unplaced, readingIn, readingBy, faultPlaces, fifteenth, storedPlaces, leftmost, lineJudged, storedBy, textGoodBy}
 use Rattle.lines.specs.Bodies.{immediates, immediateIn, bodyOf, endsWithR, textEnd, takenOf, lineOf, lineFault, lineCode}
-use Rattle.lines.specs.Examples.{bytes, examples, each, operands, code-each, judged, many, olders, checked-each}
+use Rattle.lines.specs.Examples.{examples, each, operands, eachCode, eachOperand, many, olders, eachOlder}
 use Rattle.lines.proofs.PlaceLaws.{places-none, stored-none, none-nil, nil-none}
 use Rattle.lines.proofs.TextLaws.{reading-law}
 use Rattle.lines.proofs.LoopLaws.{lawful, at-most-four, enclosed-by}
@@ -24,15 +24,15 @@ use Rattle.lines.proofs.line_claims.Statement.{statement}
 use Rattle.lines.proofs.line_claims.Tie as tie
 
 edges : each examples ≡ true
-unfolding examples each bytes many lineFault bodyOf same immediates immediateIn endsWithR textEnd takenOf lineOf readingIn readingBy unplaced faultPlaces fifteenth storedPlaces leftmost lineJudged storedBy readBy table find asksOf commandOf oneOf powerIn exponentOf within operandUpTo operandAt operandOf digitRun valueAfter
+unfolding examples each many lineFault bodyOf same immediates immediateIn endsWithR textEnd takenOf lineOf readingIn readingBy unplaced faultPlaces fifteenth storedPlaces leftmost lineJudged storedBy readBy table find asksOf commandOf oneOf powerIn exponentOf within operandUpTo operandAt operandOf digitRun valueAfter
 edges = refl
 
-older-edges : checked-each olders ≡ true
-unfolding olders checked-each bytes many textGoodBy storedBy readingIn readingBy unplaced faultPlaces fifteenth storedPlaces leftmost readBy table find asksOf commandOf oneOf powerIn exponentOf within operandUpTo operandAt operandOf digitRun valueAfter
+older-edges : eachOlder olders ≡ true
+unfolding olders eachOlder many textGoodBy storedBy readingIn readingBy unplaced faultPlaces fifteenth storedPlaces leftmost readBy table find asksOf commandOf oneOf powerIn exponentOf within operandUpTo operandAt operandOf digitRun valueAfter
 older-edges = refl
 
-ranges : judged operands ≡ true
-unfolding operands code-each judged bytes lineCode lineFault bodyOf same immediates immediateIn endsWithR textEnd takenOf lineOf readingIn readingBy unplaced faultPlaces fifteenth storedPlaces leftmost lineJudged storedBy readBy table find asksOf commandOf oneOf powerIn exponentOf within operandUpTo operandAt operandOf digitRun valueAfter
+ranges : eachOperand operands ≡ true
+unfolding operands eachCode eachOperand lineCode lineFault bodyOf same immediates immediateIn endsWithR textEnd takenOf lineOf readingIn readingBy unplaced faultPlaces fifteenth storedPlaces leftmost lineJudged storedBy readBy table find asksOf commandOf oneOf powerIn exponentOf within operandUpTo operandAt operandOf digitRun valueAfter
 ranges = refl
 
 returns : tie.Need-returns

@@ -6,9 +6,6 @@ use Rattle.obeying.proofs.DeedLaws.{line-place}
 use Rattle.obeying.proofs.obey_line.Statement.{statement}
 use Rattle.obeying.proofs.obey_line.Tie as tie
 
-returns : tie.Need-returns
-returns c = simp (c .obey-speed-or-busy .ensures, c .before .if1 .taken)
-
 refuse-at-requires : tie.Need-refuse-at-requires
 refuse-at-requires c κs =
     line-place _ (c .before .before .before .before .before .before .pre) (sym (c .before .before .before .line-of .ensures) ∙ c .before .line .given .1)
@@ -44,5 +41,17 @@ returns-4 c =
 pub obey-line-spec : {M : Type 1} → statement M
 obey-line-spec =
     tie.close
-    (tie.spec (λ c κs. search needs) returns (λ c κs. search needs) (λ c. search needs) refuse-at-requires (λ c. search needs)
-    (λ c κs. search needs) (λ c κs. search needs) (λ c. search needs) (λ c κs. search needs) returns-2 returns-3 returns-4)
+    (tie.spec
+    (λ c κs. search needs)
+    (λ c. simp (c .obey-speed-or-busy .ensures, c .before .if1 .taken))
+    (λ c κs. search needs)
+    (λ c. search needs)
+    refuse-at-requires
+    (λ c. search needs)
+    (λ c κs. search needs)
+    (λ c κs. search needs)
+    (λ c. search needs)
+    (λ c κs. search needs)
+    returns-2
+    returns-3
+    returns-4)

@@ -16,9 +16,6 @@ returns c =
       eq-eqb _ _ (c .before .before .before .if1 .taken),
     )
 
-refuse-at-requires : tie.Need-refuse-at-requires
-refuse-at-requires c κs = rw (c .before .before .check-line .ensures) (place-most _)
-
 returns-2 : tie.Need-returns-2
 returns-2 c = simp (c .refuse-at .ensures, ← c .before .before .before .check-line .ensures, ne-eqb _ _ (c .before .if1 .left))
 
@@ -31,5 +28,5 @@ obey-speed-spec =
     (λ c κs. search needs)
     (λ c κs. search needs)
     returns
-    refuse-at-requires
+    (λ c κs. rw (c .before .before .check-line .ensures) (place-most _))
     returns-2)

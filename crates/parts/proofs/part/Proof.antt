@@ -20,14 +20,16 @@ past-end : (s : List ℕ) (at n : ℕ) → length s ≤ at → [] ≡ part s at 
 unfolding part
 past-end s at n h = rw (drop-of-length-le s {i = at} h) (sym (take-nil n))
 
-returns : tie.Need-returns
-returns c = c .first .ensures ∙ from-place _ _ _
-
-returns-2 : tie.Need-returns-2
-returns-2 c = past-end _ _ _ (c .before .if1 .left)
-
 pub part-spec : {M : Type 1} → statement M
 part-spec =
     tie.close
-    (tie.spec (λ c. search needs) (λ c. search needs) (λ c. search needs) (λ c κs. search needs) (λ c. search needs) (λ c. search needs)
-    (λ c. search needs) returns returns-2)
+    (tie.spec
+    (λ c. search needs)
+    (λ c. search needs)
+    (λ c. search needs)
+    (λ c κs. search needs)
+    (λ c. search needs)
+    (λ c. search needs)
+    (λ c. search needs)
+    (λ c. c .first .ensures ∙ from-place _ _ _)
+    (λ c. past-end _ _ _ (c .before .if1 .left)))

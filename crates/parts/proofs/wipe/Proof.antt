@@ -17,18 +17,6 @@ Inv-loop s₀ i₀ i-end s i = (i ≤ i-end) × (s ≡ replicate i 0 ++ drop i s
 abbrev μ-loop : tie.MeasureT-loop
 μ-loop s₀ i₀ i-end s i = i-end - i
 
-loop-holds : tie.Need-loop-holds Inv-loop μ-loop
-loop-holds c = (zero-le, refl, refl)
-
-slice-write-s : tie.Need-slice-write-s Inv-loop μ-loop
-slice-write-s c = omega arith
-
-add-i : tie.Need-add-i Inv-loop μ-loop
-add-i c = omega arith
-
-loop-less : tie.Need-loop-less Inv-loop μ-loop
-loop-less c = omega arith
-
 loop-again : tie.Need-loop-again Inv-loop μ-loop
 loop-again c =
     let at-loop = c .before in
@@ -38,9 +26,6 @@ loop-again c =
       length-set (at-loop .loop .s) i 0 ∙ at-loop .loop .inv .2,
     )
 
-same-length : tie.Need-same-length Inv-loop μ-loop
-same-length c = c .before .loop .inv .2
-
 returns : tie.Need-returns Inv-loop μ-loop
 returns c =
     let at-loop = c .before in
@@ -48,4 +33,15 @@ returns c =
     at-loop .loop .inv .1 ∙ rw (le-antisymm (at-loop .loop .inv .0) (c .loop-test .left), drop-length s, append-nil {A = ℕ} (replicate (length s) 0))
 
 pub wipe-spec : {M : Type 1} → statement M
-wipe-spec = tie.close (tie.spec Inv-loop μ-loop loop-holds slice-write-s add-i loop-less loop-again same-length returns)
+wipe-spec =
+    tie.close
+    (tie.spec
+    Inv-loop
+    μ-loop
+    (λ c. (zero-le, refl, refl))
+    (λ c. omega arith)
+    (λ c. omega arith)
+    (λ c. omega arith)
+    loop-again
+    (λ c. c .before .loop .inv .2)
+    returns)

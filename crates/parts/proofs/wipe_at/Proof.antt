@@ -16,31 +16,10 @@ returns c =
     let a = c .before .before .args in
     is-full (a .dst .now) (a .at) (replicate (a .n) 0) (omega (arith, length-replicate {A = ℕ} (a .n) 0))
 
-sub-if2 : tie.Need-sub-if2
-sub-if2 c = search needs
-
 returns-2 : tie.Need-returns-2
 returns-2 c =
     let a = c .before .before .before .args in
     is-full (a .dst .now) (a .at) (replicate (a .n) 0) (omega (arith, length-replicate {A = ℕ} (a .n) 0))
-
-add-wipe : tie.Need-add-wipe
-add-wipe c = search needs
-
-sub-wipe : tie.Need-sub-wipe
-sub-wipe c = search needs
-
-part-wipe-start : tie.Need-part-wipe-start
-part-wipe-start c = search needs
-
-part-wipe-end : tie.Need-part-wipe-end
-part-wipe-end c = search needs
-
-wipe-requires : tie.Need-wipe-requires
-wipe-requires c κs = search needs
-
-same-length : tie.Need-same-length
-same-length c = search needs
 
 returns-3 : tie.Need-returns-3
 returns-3 c =
@@ -61,12 +40,12 @@ wipe-at-spec =
     tie.close
     (tie.spec
     returns
-    sub-if2
+    (λ c. search needs)
     returns-2
-    add-wipe
-    sub-wipe
-    part-wipe-start
-    part-wipe-end
-    wipe-requires
-    same-length
+    (λ c. search needs)
+    (λ c. search needs)
+    (λ c. search needs)
+    (λ c. search needs)
+    (λ c κs. search needs)
+    (λ c. search needs)
     returns-3)

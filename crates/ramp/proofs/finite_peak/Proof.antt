@@ -9,22 +9,17 @@ use Rattle.ramp.proofs.Peak.{greatest-is}
 use Rattle.ramp.proofs.finite_peak.Statement.{statement}
 use Rattle.ramp.proofs.finite_peak.Tie as tie
 
-mul-room : tie.Need-mul-room
-mul-room c = search needs
-
-mul-room-2 : tie.Need-mul-room-2
-mul-room-2 c = fits-le (mul-le-mul (mul-le-mul-left doubleUnit (c .pre .1 .1)) (c .pre .2 .1)) (fits-lit tt)
-
-greatest-under-requires : tie.Need-greatest-under-requires
-greatest-under-requires c κs = search needs
-
 cast-result : tie.Need-cast-result
 cast-result c =
     let a = c .before .args in
     omega (arith, c .greatest-under .ensures, greatest-is (a .v) (doubleUnit * a .l * a .n) .under)
 
-returns : tie.Need-returns
-returns c = search needs
-
 pub finite-peak-spec : {M : Type 1} → statement M
-finite-peak-spec = tie.close (tie.spec mul-room mul-room-2 greatest-under-requires cast-result returns)
+finite-peak-spec =
+    tie.close
+    (tie.spec
+    (λ c. search needs)
+    (λ c. fits-le (mul-le-mul (mul-le-mul-left doubleUnit (c .pre .1 .1)) (c .pre .2 .1)) (fits-lit tt))
+    (λ c κs. search needs)
+    cast-result
+    (λ c. search needs))

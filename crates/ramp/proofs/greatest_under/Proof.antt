@@ -16,61 +16,22 @@ Inv-loop v room square peak₀ peak = Above v room peak
 abbrev μ-loop : tie.MeasureT-loop
 μ-loop v room square peak₀ peak = peak
 
-mul-if1 : tie.Need-mul-if1 Inv-loop μ-loop
-mul-if1 c = fits-le (square-le (c .pre)) (fits-lit tt)
-
-mul-if1-2 : tie.Need-mul-if1-2 Inv-loop μ-loop
-mul-if1-2 c = fits-le (mul-le-mul-left 2 (square-le (c .pre))) (fits-lit tt)
-
-returns : tie.Need-returns Inv-loop μ-loop
-returns c = sym (whole (c .if1 .taken))
-
-guess-requires : tie.Need-guess-requires Inv-loop μ-loop
-guess-requires c κs = search needs
-
-step-requires : tie.Need-step-requires Inv-loop μ-loop
-step-requires c κs = search needs
-
-least-requires : tie.Need-least-requires Inv-loop μ-loop
-least-requires c κs = search needs
-
-loop-holds : tie.Need-loop-holds Inv-loop μ-loop
-loop-holds c = rw (c .least .ensures, c .before .step .ensures) (begun _ (c .before .before .guess .ensures .0))
-
-mul-loop : tie.Need-mul-loop Inv-loop μ-loop
-mul-loop c = fits-le (square-le (omega arith)) (fits-lit tt)
-
-mul-loop-2 : tie.Need-mul-loop-2 Inv-loop μ-loop
-mul-loop-2 c = fits-le (mul-le-mul-left 2 (square-le (omega arith))) (fits-lit tt)
-
-step-requires-2 : tie.Need-step-requires-2 Inv-loop μ-loop
-step-requires-2 c κs = (some (c .loop-test .taken), omega arith, omega arith)
-
-loop-less : tie.Need-loop-less Inv-loop μ-loop
-loop-less c = rw (c .step2 .ensures) (falls (c .before .loop-test .taken))
-
-loop-again : tie.Need-loop-again Inv-loop μ-loop
-loop-again c = rw (c .step2 .ensures) (lowered (c .before .loop-test .taken) (c .before .before .loop .inv))
-
-returns-2 : tie.Need-returns-2 Inv-loop μ-loop
-returns-2 c = ended (c .before .loop .inv) (c .loop-test .left)
-
 pub greatest-under-spec : {M : Type 1} → statement M
 greatest-under-spec =
     tie.close
     (tie.spec
     Inv-loop
     μ-loop
-    mul-if1
-    mul-if1-2
-    returns
-    guess-requires
-    step-requires
-    least-requires
-    loop-holds
-    mul-loop
-    mul-loop-2
-    step-requires-2
-    loop-less
-    loop-again
-    returns-2)
+    (λ c. fits-le (square-le (c .pre)) (fits-lit tt))
+    (λ c. fits-le (mul-le-mul-left 2 (square-le (c .pre))) (fits-lit tt))
+    (λ c. sym (whole (c .if1 .taken)))
+    (λ c κs. search needs)
+    (λ c κs. search needs)
+    (λ c κs. search needs)
+    (λ c. rw (c .least .ensures, c .before .step .ensures) (begun _ (c .before .before .guess .ensures .0)))
+    (λ c. fits-le (square-le (omega arith)) (fits-lit tt))
+    (λ c. fits-le (mul-le-mul-left 2 (square-le (omega arith))) (fits-lit tt))
+    (λ c κs. (some (c .loop-test .taken), omega arith, omega arith))
+    (λ c. rw (c .step2 .ensures) (falls (c .before .loop-test .taken)))
+    (λ c. rw (c .step2 .ensures) (lowered (c .before .loop-test .taken) (c .before .before .loop .inv)))
+    (λ c. ended (c .before .loop .inv) (c .loop-test .left)))

@@ -13,17 +13,11 @@ use Rattle.ramp.proofs.guess.Tie as tie
 power-within : {k : ℕ} → k ≤ 32 → (0 < (1 * 2 ^ k) % 2 ^ 64) × ((1 * 2 ^ k) % 2 ^ 64 ≤ 2 ^ 32)
 power-within {k} h = rw (shl-exact {a = 1} 1 k 64 (lit< tt) (omega arith), one-mul (2 ^ k)) (pow-mono {i = 0} {j = k} zero-le, pow-mono h)
 
-sub-result : tie.Need-sub-result
-sub-result c = leading-le 64 (c .args .square)
-
-cast-result : tie.Need-cast-result
-cast-result c = search needs
-
-shl-result : tie.Need-shl-result
-shl-result c = search needs
-
-returns : tie.Need-returns
-returns c = power-within (omega (arith, leading-le 64 (c .args .square)))
-
 pub guess-spec : {M : Type 1} → statement M
-guess-spec = tie.close (tie.spec sub-result cast-result shl-result returns)
+guess-spec =
+    tie.close
+    (tie.spec
+    (λ c. leading-le 64 (c .args .square))
+    (λ c. search needs)
+    (λ c. search needs)
+    (λ c. power-within (omega (arith, leading-le 64 (c .args .square)))))

@@ -16,21 +16,9 @@ use Rattle.ramp.proofs.ramp.Tie as tie
 passed : {r : Bool} {low top x : ℕ} → r ≡ outside low top x → r ≡ false → Within low top x
 passed e left = inside _ _ _ (sym e ∙ left)
 
-outside-requires : tie.Need-outside-requires
-outside-requires c κs = search needs
-
-refused-requires : tie.Need-refused-requires
-refused-requires c κs = search needs
-
 returns : tie.Need-returns
 unfolding figuresOf
 returns c = simp (c .refused .ensures, c .before .if1 .taken, ← c .before .before .outside .ensures)
-
-outside-requires-2 : tie.Need-outside-requires-2
-outside-requires-2 c κs = search needs
-
-refused-requires-2 : tie.Need-refused-requires-2
-refused-requires-2 c κs = search needs
 
 returns-2 : tie.Need-returns-2
 unfolding figuresOf
@@ -50,12 +38,6 @@ returns-3 c =
     let l = c .before .before in
     let v = l .before .before in
     simp (c .taken .ensures, v .if1 .left, ← v .before .outside .ensures, l .if2 .left, ← l .before .outside2 .ensures, c .before .if3 .taken)
-
-outside-requires-3 : tie.Need-outside-requires-3
-outside-requires-3 c κs = search needs
-
-refused-requires-3 : tie.Need-refused-requires-3
-refused-requires-3 c κs = search needs
 
 returns-4 : tie.Need-returns-4
 unfolding figuresOf
@@ -90,16 +72,16 @@ pub ramp-spec : {M : Type 1} → statement M
 ramp-spec =
     tie.close
     (tie.spec
-    outside-requires
-    refused-requires
+    (λ c κs. search needs)
+    (λ c κs. search needs)
     returns
-    outside-requires-2
-    refused-requires-2
+    (λ c κs. search needs)
+    (λ c κs. search needs)
     returns-2
     taken-requires
     returns-3
-    outside-requires-3
-    refused-requires-3
+    (λ c κs. search needs)
+    (λ c κs. search needs)
     returns-4
     finite-peak-requires
     taken-requires-2

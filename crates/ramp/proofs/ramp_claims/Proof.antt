@@ -3,8 +3,5 @@ use Rattle.ramp.proofs.Claims.{ramp-claims}
 use Rattle.ramp.proofs.ramp_claims.Statement.{statement}
 use Rattle.ramp.proofs.ramp_claims.Tie as tie
 
-returns : tie.Need-returns
-returns c = ramp-claims
-
 pub ramp-claims-spec : {M : Type 1} → statement M
-ramp-claims-spec = tie.close (tie.spec returns)
+ramp-claims-spec = tie.close (tie.spec (λ c. ramp-claims))

@@ -5,14 +5,10 @@ use borrow.Author.Needs.{needs}
 use Rattle.ramp.proofs.step.Statement.{statement}
 use Rattle.ramp.proofs.step.Tie as tie
 
-div-result : tie.Need-div-result
-div-result c = search needs
-
-add-result : tie.Need-add-result
-add-result c = omega (arith, div-le-self (c .args .square) (c .args .x))
-
-returns : tie.Need-returns
-returns c = search needs
-
 pub step-spec : {M : Type 1} → statement M
-step-spec = tie.close (tie.spec div-result add-result returns)
+step-spec =
+    tie.close
+    (tie.spec
+    (λ c. search needs)
+    (λ c. omega (arith, div-le-self (c .args .square) (c .args .x)))
+    (λ c. search needs))

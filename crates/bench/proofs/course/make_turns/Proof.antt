@@ -1,4 +1,4 @@
--- `bench::course::make_turns` is safe and ends: the turns are counted.
+-- `bench::course::make_turns` is safe and ends: it takes at most as many steps as it was given turns.
 -- Assumes nothing.
 use Prim.Native.Nat.{_≤_, _-_}
 use borrow.Author.Needs.{needs}
@@ -6,25 +6,19 @@ use Rattle.bench.proofs.course.make_turns.Statement.{statement}
 use Rattle.bench.proofs.course.make_turns.Tie as tie
 
 abbrev Inv-loop : tie.InvT-loop
-Inv-loop sample ms told image now₀ n₀ now n = n ≤ 100000
+Inv-loop most t sample text₀ image now₀ n₀ text now n = n ≤ most
 
 abbrev μ-loop : tie.MeasureT-loop
-μ-loop sample ms told image now₀ n₀ now n = 100000 - n
+μ-loop most t sample text₀ image now₀ n₀ text now n = most - n
 
 loop-holds : tie.Need-loop-holds Inv-loop μ-loop
 loop-holds c = search needs
-
-standing-requires : tie.Need-standing-requires Inv-loop μ-loop
-standing-requires c κs = search needs
 
 goes-on-requires : tie.Need-goes-on-requires Inv-loop μ-loop
 goes-on-requires c κs = search needs
 
 returns : tie.Need-returns Inv-loop μ-loop
 returns c = search needs
-
-add-make-turn : tie.Need-add-make-turn Inv-loop μ-loop
-add-make-turn c = search needs
 
 make-turn-requires : tie.Need-make-turn-requires Inv-loop μ-loop
 make-turn-requires c κs = search needs
@@ -48,10 +42,8 @@ make-turns-spec =
     Inv-loop
     μ-loop
     loop-holds
-    standing-requires
     goes-on-requires
     returns
-    add-make-turn
     make-turn-requires
     add-n
     loop-less

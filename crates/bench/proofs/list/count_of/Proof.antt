@@ -1,4 +1,4 @@
--- `bench::list::count_of` is safe and ends: it counts no more commands than the line has bytes.
+-- `bench::list::count_of` is safe and ends: it takes at most as many steps as the list has bytes.
 -- Assumes nothing.
 use mathlib.Core.Path.{_≡_}
 use Prim.Native.Nat.{_-_}
@@ -8,31 +8,25 @@ use Rattle.bench.proofs.list.count_of.Statement.{statement}
 use Rattle.bench.proofs.list.count_of.Tie as tie
 
 abbrev Inv-loop : tie.InvT-loop
-Inv-loop line start at₀ n₀ n-end at n = n-end ≡ length line
+Inv-loop list at₀ n₀ n-end at n = n-end ≡ length list
 
 abbrev μ-loop : tie.MeasureT-loop
-μ-loop line start at₀ n₀ n-end at n = n-end - n
+μ-loop list at₀ n₀ n-end at n = n-end - n
 
 loop-holds : tie.Need-loop-holds Inv-loop μ-loop
 loop-holds c = search needs
 
-item-at-requires : tie.Need-item-at-requires Inv-loop μ-loop
-item-at-requires c κs = search needs
-
-enum-known-next : tie.Need-enum-known-next Inv-loop μ-loop
-enum-known-next c = search needs
-
-enum-told : tie.Need-enum-told Inv-loop μ-loop
-enum-told c = search needs
-
-add-t9 : tie.Need-add-t9 Inv-loop μ-loop
-add-t9 c = search needs
+is-command-requires : tie.Need-is-command-requires Inv-loop μ-loop
+is-command-requires c κs = search needs
 
 returns : tie.Need-returns Inv-loop μ-loop
 returns c = search needs
 
-enum-told-2 : tie.Need-enum-told-2 Inv-loop μ-loop
-enum-told-2 c = search needs
+past-command-requires : tie.Need-past-command-requires Inv-loop μ-loop
+past-command-requires c κs = search needs
+
+add-result : tie.Need-add-result Inv-loop μ-loop
+add-result c = search needs
 
 returns-2 : tie.Need-returns-2 Inv-loop μ-loop
 returns-2 c = search needs
@@ -56,12 +50,10 @@ count-of-spec =
     Inv-loop
     μ-loop
     loop-holds
-    item-at-requires
-    enum-known-next
-    enum-told
-    add-t9
+    is-command-requires
     returns
-    enum-told-2
+    past-command-requires
+    add-result
     returns-2
     add-n
     loop-less

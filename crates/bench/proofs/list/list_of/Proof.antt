@@ -1,4 +1,4 @@
--- `bench::list::list_of` is safe and ends: the array keeps its 256 places.
+-- `bench::list::list_of` is safe and ends: it takes at most as many steps as the array has places.
 -- Assumes nothing.
 use mathlib.Core.Path.{_≡_}
 use Prim.Native.Nat.{_-_}
@@ -8,43 +8,34 @@ use Rattle.bench.proofs.list.list_of.Statement.{statement}
 use Rattle.bench.proofs.list.list_of.Tie as tie
 
 abbrev Inv-loop : tie.InvT-loop
-Inv-loop line start list₀ at₀ i₀ list at i = length list ≡ 256
+Inv-loop list commands₀ at₀ i₀ commands at i = length commands ≡ 256
 
 abbrev μ-loop : tie.MeasureT-loop
-μ-loop line start list₀ at₀ i₀ list at i = 256 - i
+μ-loop list commands₀ at₀ i₀ commands at i = 256 - i
 
 loop-holds : tie.Need-loop-holds Inv-loop μ-loop
 loop-holds c = search needs
 
-item-at-requires : tie.Need-item-at-requires Inv-loop μ-loop
-item-at-requires c κs = search needs
+command-at-requires : tie.Need-command-at-requires Inv-loop μ-loop
+command-at-requires c κs = search needs
 
 enum-known-c : tie.Need-enum-known-c Inv-loop μ-loop
 enum-known-c c = search needs
 
-mul-list : tie.Need-mul-list Inv-loop μ-loop
-mul-list c = search needs
-
-array-set-from-list : tie.Need-array-set-from-list Inv-loop μ-loop
-array-set-from-list c = search needs
-
-enum-known-c-2 : tie.Need-enum-known-c-2 Inv-loop μ-loop
-enum-known-c-2 c = search needs
-
-mul-list-2 : tie.Need-mul-list-2 Inv-loop μ-loop
-mul-list-2 c = search needs
-
-array-set-from-list-2 : tie.Need-array-set-from-list-2 Inv-loop μ-loop
-array-set-from-list-2 c = search needs
+enum-told : tie.Need-enum-told Inv-loop μ-loop
+enum-told c = search needs
 
 returns : tie.Need-returns Inv-loop μ-loop
 returns c = search needs
 
-enum-told : tie.Need-enum-told Inv-loop μ-loop
-enum-told c = search needs
+mul-commands : tie.Need-mul-commands Inv-loop μ-loop
+mul-commands c = search needs
 
-returns-2 : tie.Need-returns-2 Inv-loop μ-loop
-returns-2 c = search needs
+array-set-from-commands : tie.Need-array-set-from-commands Inv-loop μ-loop
+array-set-from-commands c = search needs
+
+past-command-requires : tie.Need-past-command-requires Inv-loop μ-loop
+past-command-requires c κs = search needs
 
 add-i : tie.Need-add-i Inv-loop μ-loop
 add-i c = search needs
@@ -55,8 +46,8 @@ loop-less c = search needs
 loop-again : tie.Need-loop-again Inv-loop μ-loop
 loop-again c = search needs
 
-returns-3 : tie.Need-returns-3 Inv-loop μ-loop
-returns-3 c = search needs
+returns-2 : tie.Need-returns-2 Inv-loop μ-loop
+returns-2 c = search needs
 
 pub list-of-spec : {M : Type 1} → statement M
 list-of-spec =
@@ -65,17 +56,14 @@ list-of-spec =
     Inv-loop
     μ-loop
     loop-holds
-    item-at-requires
+    command-at-requires
     enum-known-c
-    mul-list
-    array-set-from-list
-    enum-known-c-2
-    mul-list-2
-    array-set-from-list-2
-    returns
     enum-told
-    returns-2
+    returns
+    mul-commands
+    array-set-from-commands
+    past-command-requires
     add-i
     loop-less
     loop-again
-    returns-3)
+    returns-2)

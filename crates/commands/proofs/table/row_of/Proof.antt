@@ -2,7 +2,6 @@
 use mathlib.Core.Path.{refl}
 use borrow.Author.Needs.{needs}
 use Rattle.commands.specs.Table.{asksOf, commandOf, find, table}
-use Rattle.commands.specs.Fitting.{RowIs}
 use Rattle.commands.proofs.TableLaws.{NoLetter, no-letter}
 use Rattle.commands.proofs.table.row_of.Statement.{statement}
 use Rattle.commands.proofs.table.row_of.Tie as tie

@@ -14,12 +14,6 @@ Inv-loop n k₀ k = (1 ≤ k) × (k ≤ 10) × (k ≤ length (decimal n))
 abbrev μ-loop : tie.MeasureT-loop
 μ-loop n k₀ k = 10 - k
 
-loop-holds : tie.Need-loop-holds Inv-loop μ-loop
-loop-holds c = (omega arith, omega arith, length-some _)
-
-power-of-requires : tie.Need-power-of-requires Inv-loop μ-loop
-power-of-requires c κs = omega arith
-
 returns : tie.Need-returns Inv-loop μ-loop
 returns c =
     let n = c .before .before .before .before .args .n in
@@ -28,12 +22,6 @@ returns c =
     let l : length (decimal n) ≤ k = length-most k n (omega arith) fits in
     omega (arith, l)
 
-add-k : tie.Need-add-k Inv-loop μ-loop
-add-k c = omega arith
-
-loop-less : tie.Need-loop-less Inv-loop μ-loop
-loop-less c = omega arith
-
 loop-again : tie.Need-loop-again Inv-loop μ-loop
 loop-again c =
     let n = c .before .before .before .before .args .n in
@@ -41,19 +29,16 @@ loop-again c =
     let l : k < length (decimal n) = length-least k n (omega (arith, c .before .power-of .ensures, c .if1 .left)) in
     (omega arith, omega arith, omega (arith, l))
 
-returns-2 : tie.Need-returns-2 Inv-loop μ-loop
-returns-2 c = omega (arith, length-ten (c .before .before .args .n) (omega arith))
-
 pub count-digits-spec : {M : Type 1} → statement M
 count-digits-spec =
     tie.close
     (tie.spec
     Inv-loop
     μ-loop
-    loop-holds
-    power-of-requires
+    (λ c. (omega arith, omega arith, length-some _))
+    (λ c κs. omega arith)
     returns
-    add-k
-    loop-less
+    (λ c. omega arith)
+    (λ c. omega arith)
     loop-again
-    returns-2)
+    (λ c. omega (arith, length-ten (c .before .before .args .n) (omega arith))))

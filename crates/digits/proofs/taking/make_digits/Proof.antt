@@ -12,41 +12,14 @@ Inv-loop n digits₀ rest₀ i₀ left₀ digits rest i left = Making n digits r
 abbrev μ-loop : tie.MeasureT-loop
 μ-loop n digits₀ rest₀ i₀ left₀ digits rest i left = left
 
-count-digits-requires : tie.Need-count-digits-requires Inv-loop μ-loop
-count-digits-requires c κs = tt
-
-loop-holds : tie.Need-loop-holds Inv-loop μ-loop
-loop-holds c = making _ _ _ (omega arith) (c .before .before .pre) (c .count-digits .ensures)
-
-sub-left : tie.Need-sub-left Inv-loop μ-loop
-sub-left c = omega arith
-
-power-of-requires : tie.Need-power-of-requires Inv-loop μ-loop
-power-of-requires c κs = omega (arith, c .before .loop .inv .place)
-
-take-digit-requires : tie.Need-take-digit-requires Inv-loop μ-loop
-take-digit-requires c κs = rw (c .power-of .ensures) (next-power _ _ _ _ _ (c .before .before .loop .inv) (c .before .loop-test .taken))
-
-add-digits : tie.Need-add-digits Inv-loop μ-loop
-add-digits c = omega (arith, c .before .take-digit .ensures .2)
-
 slice-write-digits : tie.Need-slice-write-digits Inv-loop μ-loop
 slice-write-digits c = omega (arith, c .before .before .before .before .loop .inv .place, c .before .before .before .before .loop .inv .long)
-
-add-i : tie.Need-add-i Inv-loop μ-loop
-add-i c = omega (arith, c .before .before .before .before .loop .inv .place)
-
-loop-less : tie.Need-loop-less Inv-loop μ-loop
-loop-less c = omega arith
 
 loop-again : tie.Need-loop-again Inv-loop μ-loop
 loop-again c =
     let p = c .before .before .power-of .ensures in
     let t = c .before .take-digit .ensures in
     made-more _ _ _ _ _ _ _ (c .before .before .before .before .loop .inv) (c .before .before .before .loop-test .taken) (rw p at t .0) (rw p at t .1) (t .2)
-
-same-length : tie.Need-same-length Inv-loop μ-loop
-same-length c = c .before .loop .inv .long ∙ sym (c .before .before .before .before .pre)
 
 returns : tie.Need-returns Inv-loop μ-loop
 returns c = (omega (arith, c .before .loop .inv .place), made _ _ _ _ _ (c .before .loop .inv) (omega (arith, c .loop-test .left)))
@@ -57,15 +30,15 @@ make-digits-spec =
     (tie.spec
     Inv-loop
     μ-loop
-    count-digits-requires
-    loop-holds
-    sub-left
-    power-of-requires
-    take-digit-requires
-    add-digits
+    (λ c κs. tt)
+    (λ c. making _ _ _ (omega arith) (c .before .before .pre) (c .count-digits .ensures))
+    (λ c. omega arith)
+    (λ c κs. omega (arith, c .before .loop .inv .place))
+    (λ c κs. rw (c .power-of .ensures) (next-power _ _ _ _ _ (c .before .before .loop .inv) (c .before .loop-test .taken)))
+    (λ c. omega (arith, c .before .take-digit .ensures .2))
     slice-write-digits
-    add-i
-    loop-less
+    (λ c. omega (arith, c .before .before .before .before .loop .inv .place))
+    (λ c. omega arith)
     loop-again
-    same-length
+    (λ c. c .before .loop .inv .long ∙ sym (c .before .before .before .before .pre))
     returns)

@@ -28,15 +28,6 @@ below-two c =
     let p = c .before .before .before .args .power in
     taken _ p 2 2 (p + p) _ _ _ _ (below-four (c .before)) (omega arith) (omega arith) (c .take-part3 .ensures .0) (c .take-part3 .ensures .1)
 
-take-part-requires-2 : tie.Need-take-part-requires-2
-take-part-requires-2 c κs = omega (arith, below-six c .digit)
-
-take-part-requires-3 : tie.Need-take-part-requires-3
-take-part-requires-3 c κs = omega (arith, below-four c .digit)
-
-take-part-requires-4 : tie.Need-take-part-requires-4
-take-part-requires-4 c κs = omega (arith, below-two c .digit)
-
 returns : tie.Need-returns
 returns c =
     let n = c .before .before .before .before .args .n in
@@ -52,7 +43,7 @@ take-digit-spec =
     (λ c. omega arith)
     (λ c. omega arith)
     (λ c κs. omega arith)
-    take-part-requires-2
-    take-part-requires-3
-    take-part-requires-4
+    (λ c κs. omega (arith, below-six c .digit))
+    (λ c κs. omega (arith, below-four c .digit))
+    (λ c κs. omega (arith, below-two c .digit))
     returns)

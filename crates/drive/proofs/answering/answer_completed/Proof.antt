@@ -4,17 +4,8 @@ use Rattle.drive.proofs.FeedLaws.{answers-none, answers-alone}
 use Rattle.drive.proofs.answering.answer_completed.Statement.{statement}
 use Rattle.drive.proofs.answering.answer_completed.Tie as tie
 
-answer-frame-requires : tie.Need-answer-frame-requires
-answer-frame-requires c κs = search needs
-
-returns : tie.Need-returns
-returns c = answers-none (rw (c .enum-told .given .1))
-
 returns-2 : tie.Need-returns-2
 returns-2 c = answers-alone (c .before .before .before .before .enum-told2 .given .1) (c .before .before .answer-frame .ensures)
-
-returns-3 : tie.Need-returns-3
-returns-3 c = answers-none (rw (c .enum-told3 .given .1))
 
 pub answer-completed-spec : {M : Type 1} → statement M
 answer-completed-spec =
@@ -22,9 +13,9 @@ answer-completed-spec =
     (tie.spec
     (λ c. search needs)
     (λ c. search needs)
-    answer-frame-requires
+    (λ c κs. search needs)
     (λ c. search needs)
-    returns
+    (λ c. answers-none (rw (c .enum-told .given .1)))
     (λ c. search needs)
     returns-2
-    returns-3)
+    (λ c. answers-none (rw (c .enum-told3 .given .1))))

@@ -4,9 +4,6 @@ use borrow.Author.Needs.{needs}
 use Rattle.drive.proofs.feeding.apply.Statement.{statement}
 use Rattle.drive.proofs.feeding.apply.Tie as tie
 
-returns : tie.Need-returns
-returns c = rw (c .enum-told .given .1) (record { to-text = refl; to-image = refl })
-
 returns-2 : tie.Need-returns-2
 returns-2 c =
     rw (c .before .before .before .before .w .given .1)
@@ -25,6 +22,19 @@ returns-4 c =
 pub apply-spec : {M : Type 1} → statement M
 apply-spec =
     tie.close
-    (tie.spec (λ c. search needs) (λ c. search needs) (λ c κs. search needs) (λ c κs. search needs) (λ c. search needs) (λ c κs. search needs)
-    (λ c κs. search needs) (λ c. search needs) (λ c κs. search needs) returns returns-2 (λ c. search needs) returns-3 (λ c. search needs)
+    (tie.spec
+    (λ c. search needs)
+    (λ c. search needs)
+    (λ c κs. search needs)
+    (λ c κs. search needs)
+    (λ c. search needs)
+    (λ c κs. search needs)
+    (λ c κs. search needs)
+    (λ c. search needs)
+    (λ c κs. search needs)
+    (λ c. rw (c .enum-told .given .1) (record { to-text = refl; to-image = refl }))
+    returns-2
+    (λ c. search needs)
+    returns-3
+    (λ c. search needs)
     returns-4)

@@ -5,15 +5,6 @@ use Rattle.drive.specs.Repeats.{chosen}
 use Rattle.drive.proofs.repeats.choose.Statement.{statement}
 use Rattle.drive.proofs.repeats.choose.Tie as tie
 
-is-repeat-requires : tie.Need-is-repeat-requires
-is-repeat-requires c κs = search needs
-
-is-query-requires : tie.Need-is-query-requires
-is-query-requires c κs = search needs
-
-first-requires : tie.Need-first-requires
-first-requires c κs = search needs
-
 returns : tie.Need-returns
 unfolding chosen
 returns c =
@@ -44,4 +35,4 @@ returns-3 c = simp (← c .before .is-repeat .ensures, c .if1 .left)
 pub choose-spec : {M : Type 1} → statement M
 choose-spec =
     tie.close
-    (tie.spec is-repeat-requires is-query-requires first-requires returns returns-2 returns-3)
+    (tie.spec (λ c κs. search needs) (λ c κs. search needs) (λ c κs. search needs) returns returns-2 returns-3)

@@ -4,30 +4,6 @@ use Rattle.drive.specs.Repeats.{isQuery}
 use Rattle.drive.proofs.repeats.is_query.Statement.{statement}
 use Rattle.drive.proofs.repeats.is_query.Tie as tie
 
-body-of-requires : tie.Need-body-of-requires
-body-of-requires c κs = search needs
-
-enum-told : tie.Need-enum-told
-enum-told c = search needs
-
-enum-told-2 : tie.Need-enum-told-2
-enum-told-2 c = search needs
-
-enum-known-kind : tie.Need-enum-known-kind
-enum-known-kind c = search needs
-
-is-asking-requires : tie.Need-is-asking-requires
-is-asking-requires c κs = search needs
-
-enum-told-3 : tie.Need-enum-told-3
-enum-told-3 c = search needs
-
-enum-told-4 : tie.Need-enum-told-4
-enum-told-4 c = search needs
-
-enum-told-5 : tie.Need-enum-told-5
-enum-told-5 c = search needs
-
 returns : tie.Need-returns
 unfolding isQuery
 returns c = simp (← c .before .before .body-of .ensures, c .enum-told .given .1)
@@ -56,14 +32,14 @@ pub is-query-spec : {M : Type 1} → statement M
 is-query-spec =
     tie.close
     (tie.spec
-    body-of-requires
-    enum-told
-    enum-told-2
-    enum-known-kind
-    is-asking-requires
-    enum-told-3
-    enum-told-4
-    enum-told-5
+    (λ c κs. search needs)
+    (λ c. search needs)
+    (λ c. search needs)
+    (λ c. search needs)
+    (λ c κs. search needs)
+    (λ c. search needs)
+    (λ c. search needs)
+    (λ c. search needs)
     returns
     returns-2
     returns-3

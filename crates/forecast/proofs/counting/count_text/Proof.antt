@@ -16,9 +16,6 @@ Inv-loop text tally₀ at₀ tally at = Tallying text tally at
 abbrev μ-loop : tie.MeasureT-loop
 μ-loop text tally₀ at₀ tally at = length text - at
 
-loop-holds : tie.Need-loop-holds Inv-loop μ-loop
-loop-holds c = tallying _
-
 loop-less : tie.Need-loop-less Inv-loop μ-loop
 loop-less c =
     let h = read-step _ _ (sym (c .before .before .before .before .read-command .ensures) ∙ c .before .before .r .given .1) in
@@ -43,7 +40,7 @@ count-text-spec =
     (tie.spec
     Inv-loop
     μ-loop
-    loop-holds
+    (λ c. tallying _)
     (λ c κs. search needs)
     (λ c. search needs)
     (λ c κs. search needs)

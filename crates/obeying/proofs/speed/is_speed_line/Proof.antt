@@ -6,9 +6,6 @@ use Rattle.obeying.proofs.SpeedLaws.{no-bytes-line, by-last-byte}
 use Rattle.obeying.proofs.speed.is_speed_line.Statement.{statement}
 use Rattle.obeying.proofs.speed.is_speed_line.Tie as tie
 
-returns : tie.Need-returns
-returns c = no-bytes-line _ (c .if1 .taken)
-
 returns-2 : tie.Need-returns-2
 unfolding speedLine
 returns-2 c = simp (ne-eqb _ _ (c .if2 .taken))
@@ -32,7 +29,7 @@ pub is-speed-line-spec : {M : Type 1} → statement M
 is-speed-line-spec =
     tie.close
     (tie.spec
-    returns
+    (λ c. no-bytes-line _ (c .if1 .taken))
     (λ c. search needs)
     returns-2
     (λ c κs. search needs)
