@@ -61,6 +61,27 @@ def edits():
     return [parsed(file) for file in sorted(ROOT.glob("crates/*/must-fail/*.edit"))]
 
 
+def functions(crate):
+    """The text of each function of a crate, by its path, and what its contract and its body are."""
+    found = {}
+    for file in sorted((ROOT / "crates" / crate / "src").glob("*.rt")):
+        text = file.read_text()
+        module = "" if file.stem == "lib" else f"{file.stem}::"
+        for place in re.finditer(r'^(?:pub(?:\(crate\))? )?(?:extern "C" )?fn (\w+)', text, re.M):
+            end = re.compile(r"^\{\}$|^\}$", re.M).search(text, place.start())
+            found[module + place[1]] = text[place.start() : end.end() if end else None]
+    return found
+
+
+def touches(program, function):
+    """Whether a program that changes the code alone changes something of a function's text, or a constant that it mentions."""
+    for _, old, _ in program.pairs:
+        constant = re.match(r"(?:pub(?:\(crate\))? )?const (\w+)", old)
+        if old in function or constant and re.search(rf"\b{constant[1]}\b", function):
+            return True
+    return False
+
+
 def refusals(log, crate):
     """What a log says is refused on its own, with the first line of the reason: errors that only follow from another are left out."""
     found = {}
