@@ -3,7 +3,8 @@
 //! Each row is timed by two programs that repeat the same work, started in turns with the same input; the digests that they
 //! write must be the same. Feed and turn: the proved program `target/bin/pace`. Line check, image check and ramp: `target/calls`,
 //! which is `calls.c` linked with the archive. Beside both the model: this program again. Of each the least of all rounds counts,
-//! less the time of a run that repeats nothing. A ratio above its target is marked.
+//! less the time of a run that repeats nothing. A ratio above its target is marked. On a processor other than x86-64 what is timed
+//! is the same proved code compiled for that one (`tests/native`).
 //!
 //! `speed` prints times, `speed counts [MODEL]` instructions: by valgrind, and on a processor other than x86-64 by the emulator;
 //! there MODEL is this program built for x86-64, without which our programs alone are counted. `speed bounds` holds the
@@ -13,6 +14,7 @@
 use std::env;
 use std::hint::black_box;
 use std::io::{self, BufRead, BufReader, Read, Write};
+use std::path::Path;
 use std::process::{exit, Child, Command, Stdio};
 use std::time::{Duration, Instant};
 
@@ -24,6 +26,10 @@ use drive_model::random::{Lines, Random};
 const ON: &str = concat!(env!("CARGO_MANIFEST_DIR"), "/../on-x86-64");
 const PACE_PROGRAM: &str = concat!(env!("CARGO_MANIFEST_DIR"), "/../../target/bin/pace");
 const CALLS: &str = concat!(env!("CARGO_MANIFEST_DIR"), "/../../target/calls");
+
+/// Both for this processor, in the order of the two above.
+const NATIVE: [&str; 2] =
+    [concat!(env!("CARGO_MANIFEST_DIR"), "/../../target/native/pace"), concat!(env!("CARGO_MANIFEST_DIR"), "/../../target/native/calls")];
 
 /// Whether our programs run on this processor itself.
 const HERE: bool = cfg!(target_arch = "x86_64");
@@ -57,8 +63,8 @@ const COUNTED: usize = if HERE { 2000 } else { 200 };
 fn main() {
     let words: Vec<String> = env::args().skip(1).filter(|word| word != "--bench").collect();
     match words.iter().map(String::as_str).collect::<Vec<_>>()[..] {
-        [] if !HERE => {
-            eprintln!("speed: the programs are for x86-64, and times under an emulator say nothing; `-- counts` counts their instructions");
+        [] if !HERE && NATIVE.iter().any(|program| !Path::new(program).exists()) => {
+            eprintln!("speed: the programs are for x86-64, and times under an emulator say nothing: tests/native makes them for this processor, `-- counts` counts instructions");
             exit(1)
         }
         [] => table("nanoseconds", 0, time),
@@ -151,7 +157,10 @@ impl Row {
 
 fn time(row: &Row) -> Costs {
     let once = |side: usize, times: u32| {
-        let (words, input) = row.run(side, &this(), times);
+        let (mut words, input) = row.run(side, &this(), times);
+        if !HERE {
+            words[0] = words[0].replace(PACE_PROGRAM, NATIVE[0]).replace(CALLS, NATIVE[1]);
+        }
         let begin = Instant::now();
         let (digest, _) = ended(start(&words, &input));
         (begin.elapsed(), digest)
