@@ -6,7 +6,6 @@ the same edits from nothing, and leaves the same files."""
 import os, pathlib, platform, re, shutil, subprocess, tempfile, threading, time
 import must_fail
 
-TARGET = must_fail.ROOT / "target"
 DEPENDS = {name: words.split() for name, words in re.findall(r"^(\w+):(.*)", (must_fail.ROOT / "crates.txt").read_text(), re.M)}
 
 
@@ -16,8 +15,8 @@ def kit():
     return home, home / "on" / platform.machine()
 
 
-def is_proved(crate):
-    return (TARGET / "stamp" / crate).exists()
+def is_proved(crate, tree):
+    return (tree / "target/stamp" / crate).exists()
 
 
 def changed(edit, folder):
@@ -33,22 +32,22 @@ def changed(edit, folder):
             file.write_text(file.read_text().replace(old, new))
 
 
-def known(crate, folder):
+def known(crate, tree, folder):
     """The incremental folder of a crate as it was proved."""
-    library = TARGET / "rlib" / f"{crate}.rlib"
+    library = tree / "target/rlib" / f"{crate}.rlib"
     build = re.search(r"^rattle-build (.*)", (library / "format").read_text(), re.M)[1].replace("/", "_")
     shutil.copytree(library / "toolchain/checked", pathlib.Path(folder) / build)
     return folder
 
 
-def check(crate, root, folder):
+def check(crate, root, tree, folder):
     """What the prover says of a crate, the status with which it ends, and its seconds of processor time."""
     home, own = kit()
     words = [own / "bin/rattle", "check", "--crate-name", crate, root, "--extern", f"std={own}/rlib/std.rlib"]
     for name in DEPENDS[crate]:
-        place = TARGET if name in DEPENDS else own
+        place = tree / "target" if name in DEPENDS else own
         words += ["--extern", f"{name}={place}/rlib/{name}.rlib"]
-    words += ["-L", f"dependency={TARGET}/rlib", "-L", f"dependency={own}/rlib"]
+    words += ["-L", f"dependency={tree}/target/rlib", "-L", f"dependency={own}/rlib"]
     words += ["--antt-project", home / "logic/antt-project.json", "--logic-built", own / "logic-built", "--incremental", folder]
     ran = subprocess.Popen(words, stdout=subprocess.PIPE, stderr=subprocess.STDOUT, text=True)
     said = ran.stdout.read()
@@ -56,12 +55,12 @@ def check(crate, root, folder):
     return said, os.waitstatus_to_exitcode(status), used.ru_utime + used.ru_stime
 
 
-def attempt(edit):
-    """Tries an edit; its log, its verdict and a line that says both stand where `rt must-fail` leaves them."""
+def attempt(edit, tree=must_fail.ROOT):
+    """Tries an edit over the crates as they are proved in a tree; its log, its verdict and a line that says both stand where `rt must-fail` leaves them."""
     edit.tried.parent.mkdir(parents=True, exist_ok=True)
     changed(edit, edit.tried)
     with tempfile.TemporaryDirectory() as folder:
-        log, status, took = check(edit.crate, edit.tried / "src/lib.rt", known(edit.crate, folder))
+        log, status, took = check(edit.crate, edit.tried / "src/lib.rt", tree, known(edit.crate, tree, folder))
     (edit.tried / ".log").write_text(log)
     refused = status == 1 and re.search(r"^logic=not-proved", log, re.M)
     edit.tried.with_suffix(".res").write_text("refused\n" if refused else "survived\n")
@@ -70,24 +69,25 @@ def attempt(edit):
     print(said, flush=True)
 
 
-def attempt_all(edits, proving):
-    """Tries the edits, as many at a time as the machine has cores, behind proofs that are at work as long as there is a file."""
+def attempt_all(edits, tree):
+    """Tries the edits, as many at a time as the machine has cores, over the crates of a tree: each once its crate is proved there,
+    waiting for that as long as the tree has a file `proving`."""
     os.nice(10)
     waiting, lock = sorted(edits, key=lambda edit: list(DEPENDS).index(edit.crate)), threading.Lock()
 
     def next_edit():
         with lock:
-            ready = next((edit for edit in waiting if is_proved(edit.crate)), None)
+            ready = next((edit for edit in waiting if is_proved(edit.crate, tree)), None)
             if ready:
                 waiting.remove(ready)
             return ready
 
     def work():
         while waiting:
-            goes_on = os.path.exists(proving)
+            goes_on = (tree / "proving").exists()
             edit = next_edit()
             if edit:
-                attempt(edit)
+                attempt(edit, tree)
             elif goes_on:
                 time.sleep(1)
             else:
