@@ -39,13 +39,19 @@ const CHECKS: [f64; 2] = [1.5, 1.5];
 
 /// Feed and turn: at most so many times the model in time and in instructions, and the most instructions of ours that the gate
 /// lets pass, so that a lost shape is seen at once. A number of ten digits is written without a division, which the model makes.
-const PACE: [(&str, [f64; 2], f64); 12] = [
+const PACE: [(&str, [f64; 2], f64); 18] = [
     ("feed, short frames, 1 byte a call", [1.4, 1.1], 170.0),
     ("feed, short frames, 16 bytes a call", [1.1, 1.05], 90.0),
     ("feed, short frames, 256 bytes a call", [1.1, 1.05], 89.0),
     ("feed, 200-byte bodies, 1 byte a call", [1.4, 1.1], 162.0),
     ("feed, 200-byte bodies, 16 bytes a call", [1.1, 1.05], 76.0),
     ("feed, 200-byte bodies, 256 bytes a call", [1.1, 1.05], 71.0),
+    ("feed, short OEM frames, 1 byte a call", [1.4, 1.1], 170.0),
+    ("feed, short OEM frames, 16 bytes a call", [1.1, 1.05], 90.0),
+    ("feed, short OEM frames, 256 bytes a call", [1.1, 1.05], 89.0),
+    ("feed, 200-byte OEM bodies, 1 byte a call", [1.4, 1.1], 162.0),
+    ("feed, 200-byte OEM bodies, 16 bytes a call", [1.1, 1.05], 76.0),
+    ("feed, 200-byte OEM bodies, 256 bytes a call", [1.1, 1.05], 71.0),
     ("feed, ten-digit answers, 1 byte a call", [4.0, 1.75], 305.0),
     ("feed, ten-digit answers, a frame a call", [4.0, 2.1], 240.0),
     ("turn, idle", [1.3, 1.15], 34.0),
