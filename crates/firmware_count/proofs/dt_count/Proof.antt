@@ -1,8 +1,8 @@
--- `firmware::dt_count` meets its contract: each arm knows its answer. Assumes nothing.
+-- `firmware_count::dt_count` meets its contract: each arm knows its answer. Assumes nothing.
 use borrow.Author.Needs.{needs}
-use Rattle.firmware.specs.Port.{countedNumber}
-use Rattle.firmware.proofs.dt_count.Statement.{statement}
-use Rattle.firmware.proofs.dt_count.Tie as tie
+use Rattle.firmware_count.specs.Port.{countedNumber}
+use Rattle.firmware_count.proofs.dt_count.Statement.{statement}
+use Rattle.firmware_count.proofs.dt_count.Tie as tie
 
 pub dt-count-spec : {M : Type 1} → statement M
 unfolding countedNumber
