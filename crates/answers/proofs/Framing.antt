@@ -14,7 +14,8 @@ use Rattle.parts.specs.Letters.{stx, etx, cr, lf, slash}
 use Rattle.parts.specs.Parts.{part, same}
 use Rattle.parts.proofs.Laws.{same-is, same-self}
 use Rattle.answers.specs.Packet.{hostAddress, packetAround, tail, packet, dataAt, aroundData, mostData}
-use Rattle.answers.specs.Reading.{statusIn, dataIn, framedBy, framed, oneBy, insideBy, Roomy}
+use Rattle.answers.specs.Reading.{statusIn, dataIn, framedBy, framed, oneBy, insideBy}
+use Rattle.answers.specs.Room.{Roomy}
 use Rattle.answers.specs.Reading.{printable, allPrintable, goodData, goodStatus, bit}
 use Rattle.answers.specs.Oem.{oemTail, oemPacket, aroundOem}
 use Rattle.answers.specs.declared.Inside.the-variants.{StatusData, Neither}

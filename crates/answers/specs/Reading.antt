@@ -1,9 +1,8 @@
 -- A packet that the host reads. 01, the row "slice not exactly one packet (status bit 6 set, bits 7 and 4 clear,
 -- data 0 to 256 bytes of 20 to 7E hex) | named refusal". Assumes nothing.
-use Prim.Native.Nat.{ℕ, _-_, _/_, _%_, _^_, _≤_}
+use Prim.Native.Nat.{ℕ, _-_, _/_, _%_, _^_}
 use mathlib.Core.List.{List, [], _∷_}
 use mathlib.Core.Bool.{Bool, true, false, cond, not, _&&_}
-use mathlib.Core.Path.{_≡_}
 use lib.ListN.{length, getD}
 use lib.Dec.{leb, eqb}
 use Rattle.parts.specs.Parts.{part, same}
@@ -59,11 +58,6 @@ isPacket s = oneBy (framed s) aroundData s
 -- status and number of data bytes, or neither
 unfoldable pub insideBy : Bool → ℕ → List ℕ → Inside
 insideBy isFramed around s = cond (oneBy isFramed around s) (StatusData (statusIn s) (length (dataIn around s))) Neither
-
--- a framed slice has the bytes that stand around the data
-pub record Roomy (isFramed : Bool) (around : ℕ) (s : List ℕ) : Type 0 where
-  pub head : dataAt ≤ around
-  pub whole : isFramed ≡ true → around ≤ length s
 
 -- "exactly one packet", and the "named refusal" of every other slice
 abbrev pub foundOf : Bool → Found

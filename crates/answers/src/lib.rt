@@ -1,7 +1,8 @@
 // Answers: the status, a packet written from a status and data, a packet read, in both framings.
 ghost use mathlib.Core.Path.{_≡_};
 ghost use Rattle.answers.specs.Packet.{statusOf, numberData, packetAround, PacketAs, PacketIs};
-ghost use Rattle.answers.specs.Reading.{framed, goodStatus, goodData, insideBy, Roomy, toldOf, readOf};
+ghost use Rattle.answers.specs.Reading.{framed, goodStatus, goodData, insideBy, toldOf, readOf};
+ghost use Rattle.answers.specs.Room.{Roomy};
 ghost use Rattle.answers.specs.Oem.{oemSum, OemPacketIs, oemFramed, readOemOf};
 ghost use Rattle.answers.specs.AnswerClaims.{AnswerClaims};
 use digits::Written;

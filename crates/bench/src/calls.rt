@@ -4,7 +4,6 @@ use crate::forms;
 use crate::forms::Task;
 use crate::list;
 use crate::telling;
-use crate::telling::Answer;
 use answers::Found;
 use answers::Packet;
 use commands::Fault;
@@ -14,49 +13,65 @@ use lines::Slot;
 use ramp::Figures;
 use ramp::Verdict;
 
-// The answer to an operation that leaves the unit as it is.
-pub(crate) fn ask(t: Task, given: &[u8], image_bytes: u64, buffer: &mut [u8]) -> Answer {
+// Tells the answer to an operation that leaves the unit as it is.
+pub(crate) fn ask(t: Task, given: &[u8], image: &[u8], buffer: &mut [u8]) {
     let row = t.row;
     match row {
         forms::LINE => tell_fault(forms::LINE, 0, lines::check_line(given)),
-        forms::TEXT => telling::said(forms::TEXT, lines::check_text(given) as u64, 0, 0, 0),
-        forms::READ => tell_packet(read_either(given)),
+        forms::TEXT => telling::say(forms::TEXT, lines::check_text(given) as u64, 0, 0, 0),
+        forms::READ => tell_packet(given),
         forms::COUNT => tell_count(forecast::count(given)),
         forms::WRITE => write(t, given, buffer),
-        _ => ask_plain(t, image_bytes),
+        forms::STORE => telling::say_of(forms::STORE, 0, 0, 0, 0, image),
+        _ => ask_plain(t, image.len(), buffer),
     }
 }
 
-// The same where no bytes are given: `ramp`, and what only tells of bytes.
-fn ask_plain(t: Task, image_bytes: u64) -> Answer {
+// The same where no bytes are given: `ramp`, and what only tells of the table or of what is lent.
+fn ask_plain(t: Task, image_bytes: usize, buffer: &[u8]) {
     let row = t.row;
     match row {
         forms::RAMP => tell_ramp(t, false),
         forms::ENDLESS => tell_ramp(t, true),
-        telling::REASON => telling::said_of(telling::REASON, t.a, 0, 0, 0, t.at, 0),
-        forms::ROOM => telling::said(forms::ROOM, t.c, 0, 0, 0),
-        _ => telling::said_of(t.row, image_bytes, 0, 0, 0, 0, usize::MAX),
+        forms::HELP => tell_words(forms::HELP, t),
+        telling::REASON => tell_words(telling::REASON, t),
+        _ => telling::say_of(t.row, image_bytes as u64, buffer.len() as u64, 0, 0, buffer),
     }
 }
 
+// The table of the operations; of a line that is none of them what is wrong with it.
+fn tell_words(row: usize, t: Task) {
+    telling::say_of(row, t.a, 0, 0, 0, words(&forms::TABLE, row, t.at));
+}
+
+// The table, or of a reason the word at a place of it.
+fn words(table: &[u8], row: usize, at: usize) -> &[u8] {
+    if row == telling::REASON {
+        return fields::field_at(table, at);
+    }
+    table
+}
+
 // A code, and the place of the fault where it has one.
-fn tell_fault(row: usize, k: u64, fault: Fault) -> Answer {
-    telling::said(
+fn tell_fault(row: usize, k: u64, fault: Fault) {
+    telling::say(
         row,
         k,
         fault.code as u64,
         (fault.place != 0) as u64,
         fault.place as u64,
-    )
+    );
 }
 
 // Status and data of a packet.
-fn tell_packet(p: Packet) -> Answer {
+fn tell_packet(bytes: &[u8]) {
+    let p = read_either(bytes);
     let found = p.found;
     let Found::OnePacket = found else {
-        return telling::said(forms::READ, 1, 0, 0, 0);
+        return telling::say(forms::READ, 1, 0, 0, 0);
     };
-    telling::said_of(forms::READ, 0, p.status as u64, 0, 0, p.at, p.length)
+    let data = parts::part(bytes, p.at, p.length);
+    telling::say_of(forms::READ, 0, p.status as u64, 0, 0, data);
 }
 
 // A packet read, in the OEM framing where it begins with 02.
@@ -68,17 +83,17 @@ pub(crate) fn read_either(bytes: &[u8]) -> Packet {
 }
 
 // How many commands a run takes, or why that is not said.
-fn tell_count(counted: Counted) -> Answer {
+fn tell_count(counted: Counted) {
     match counted {
-        Counted::Commands(n) => telling::said(forms::COUNT, 0, n, 0, 0),
-        Counted::Letter => telling::said(forms::COUNT, 1, 0, 0, 0),
-        Counted::TooMany => telling::said(forms::COUNT, 2, 0, 0, 0),
+        Counted::Commands(n) => telling::say(forms::COUNT, 0, n, 0, 0),
+        Counted::Letter => telling::say(forms::COUNT, 1, 0, 0, 0),
+        Counted::TooMany => telling::say(forms::COUNT, 2, 0, 0, 0),
         Counted::Refused(f) => tell_fault(forms::COUNT, 3, f),
     }
 }
 
 // `ramp V L N`, `ramp V L endless`: peak and distance, and the bits of three floats.
-fn tell_ramp(t: Task, endless: bool) -> Answer {
+fn tell_ramp(t: Task, endless: bool) {
     let f = ramp::ramp(
         fields::narrow(t.a),
         fields::narrow(t.b),
@@ -87,18 +102,18 @@ fn tell_ramp(t: Task, endless: bool) -> Answer {
     );
     let verdict = f.verdict;
     let r = f.floats;
-    let mut answer = telling::said(
-        forms::RAMP,
+    let numbers = [
         verdict_of(verdict),
         f.peak as u64,
         f.distance,
         bits_of(r.speed),
-    );
-    answer.numbers[4] = bits_of(r.acceleration);
-    answer.numbers[5] = bits_of(r.time);
-    answer
+        bits_of(r.acceleration),
+        bits_of(r.time),
+    ];
+    telling::print(forms::RAMP, &numbers, b"");
 }
 
+// The number of a verdict among those of its row.
 fn verdict_of(verdict: Verdict) -> u64 {
     match verdict {
         Verdict::Taken => 0,
@@ -118,9 +133,10 @@ fn bits_of(x: f64) -> u64 {
 }
 
 // `write SLOT RUN LIST`
-fn write(t: Task, list: &[u8], buffer: &mut [u8]) -> Answer {
+fn write(t: Task, list: &[u8], buffer: &mut [u8]) {
     let commands = list::list_of(list);
-    tell_written(host::write_line(slot_of(t.a), commands, t.c as usize, t.b == 1, buffer))
+    let written = host::write_line(slot_of(t.a), commands, t.c as usize, t.b == 1, buffer);
+    tell_written(written, buffer);
 }
 
 // The slot of a field.
@@ -132,10 +148,12 @@ fn slot_of(value: u64) -> Slot {
 }
 
 // What came of writing a line.
-fn tell_written(written: LineWritten) -> Answer {
+fn tell_written(written: LineWritten, buffer: &[u8]) {
     match written {
-        LineWritten::Bytes(n) => telling::said_of(forms::WRITE, 0, 0, 0, 0, 0, n),
-        LineWritten::NoRoom => telling::said(forms::WRITE, 1, 0, 0, 0),
+        LineWritten::Bytes(n) => {
+            telling::say_of(forms::WRITE, 0, 0, 0, 0, parts::first(buffer, n))
+        }
+        LineWritten::NoRoom => telling::say(forms::WRITE, 1, 0, 0, 0),
         LineWritten::Refused(f) => tell_fault(forms::WRITE, 2, f),
     }
 }

@@ -3,10 +3,10 @@ use crate::fields;
 use crate::forms;
 use crate::forms::Task;
 use crate::state;
-use crate::state::Done;
 use crate::telling;
 use crate::unit;
 use drive::Record;
+use drive::Turned;
 use motor::Motor;
 use motor::Wait;
 use turns::Action;
@@ -28,29 +28,15 @@ const IMAGE_LENGTH: u64 = 3;
 
 const SAMPLE: u64 = 4;
 
-// The unit after some turns.
-struct Ran {
-    unit: Record,
-    turns: u32,
-}
-
 // `run SAMPLE MS`, `timeline SAMPLE MS`; where that is refused no turn is made.
-pub(crate) fn run(u: Record, t: Task, text: &mut [u8; state::TEXT_BYTES], image: &[u8]) -> Done {
+pub(crate) fn run(u: Record, t: Task, text: &mut [u8; state::TEXT_BYTES], image: &[u8]) -> Record {
     let sample = fields::byte_of(t.b);
     let refusal = refusal_of(image::is_right_length(image), sample);
-    let ran = make_turns(u, most_turns(refusal), t, sample, text, image);
-    let v = ran.unit;
-    let c = v.core;
-    Done {
-        unit: v,
-        answer: telling::said(
-            forms::RUN,
-            end_of(v, sample, refusal),
-            ran.turns as u64,
-            c.code as u64,
-            0,
-        ),
+    if refusal != IDLE {
+        telling::say(forms::RUN, refusal, 0, 0, 0);
+        return u;
     }
+    make_turns(u, t.row, sample, fields::narrow(t.c), text, image)
 }
 
 // Why turns are refused; IDLE where they are not.
@@ -61,55 +47,48 @@ fn refusal_of(is_right_length: bool, sample: u8) -> u64 {
     if SAMPLE_MOST < sample { SAMPLE } else { IDLE }
 }
 
-fn most_turns(refusal: u64) -> u32 {
-    if refusal == IDLE { MOST_TURNS } else { 0 }
-}
-
-// Makes turns until the unit has ended or waits.
+// Makes turns until the unit has ended or waits, and tells how many.
 fn make_turns(
     u: Record,
-    most: u32,
-    t: Task,
+    row: usize,
     sample: u8,
+    ms: u32,
     text: &mut [u8; state::TEXT_BYTES],
     image: &[u8],
-) -> Ran {
+) -> Record {
     let mut now = u;
-    for n in 0..most {
+    for n in 0..MOST_TURNS {
         if !goes_on(now, sample) {
-            return Ran {
-                unit: now,
-                turns: n,
-            };
+            return tell_ran(now, n, sample);
         }
-        now = make_turn(now, n, t, sample, text, image);
+        now = make_turn(now, n, row, sample, ms, text, image);
     }
-    Ran {
-        unit: now,
-        turns: most,
-    }
+    tell_ran(now, MOST_TURNS, sample)
 }
 
-// How turns have ended.
-fn end_of(u: Record, sample: u8, refusal: u64) -> u64 {
-    let c = u.core;
-    if refusal != IDLE {
-        return refusal;
-    }
-    if !c.running {
+// How many turns were made, and how they have ended.
+fn tell_ran(u: Record, turns: u32, sample: u8) -> Record {
+    let k = end_of(u.core.running, goes_on(u, sample));
+    telling::say(forms::RUN, k, turns as u64, u.core.code as u64, 0);
+    u
+}
+
+// How turns have ended, by whether the unit runs and whether it goes on.
+fn end_of(running: bool, goes_on: bool) -> u64 {
+    if !running {
         return IDLE;
     }
-    if goes_on(u, sample) { BUSY } else { WAITS }
+    if goes_on { BUSY } else { WAITS }
 }
 
 // Whether a unit runs and waits for no input that the sample does not have.
 fn goes_on(u: Record, sample: u8) -> bool {
+    if !u.core.running {
+        return false;
+    }
     let c = u.core;
     let m = c.motor;
     let wait = m.wait;
-    if !c.running {
-        return false;
-    }
     let Wait::Input(digits) = wait else {
         return true;
     };
@@ -120,37 +99,36 @@ fn goes_on(u: Record, sample: u8) -> bool {
 fn make_turn(
     u: Record,
     n: u32,
-    t: Task,
+    row: usize,
     sample: u8,
+    ms: u32,
     text: &mut [u8; state::TEXT_BYTES],
     image: &[u8],
 ) -> Record {
-    let c = u.core;
-    let m = c.motor;
-    let last = m.last;
     let before = *text;
-    let turned = drive::turn(u, text, sample, fields::narrow(t.c), last.number, image);
-    let v = turned.unit;
-    if t.row == forms::TIMELINE {
-        tell_turn(u, before, n, v, turned.action);
-    }
-    v
+    let turned = drive::turn(u, text, sample, ms, u.core.motor.last.number, image);
+    tell_turn(row, u, before, n, turned);
+    turned.unit
 }
 
-// Writes the line of a turn: its number, the place in the text, the command taken, then what it leaves.
-fn tell_turn(u: Record, text: [u8; state::TEXT_BYTES], n: u32, v: Record, action: Action) {
-    let c = u.core;
-    let f = c.flow;
-    let command = fields::command_at(parts::first(&text, f.length), f.at);
-    let d = v.core;
-    let numbers = numbers_of(
+// Writes the line of a turn where that is asked for: its number, the place in the text, the command taken, then what it leaves.
+fn tell_turn(row: usize, u: Record, text: [u8; state::TEXT_BYTES], n: u32, turned: Turned) {
+    if row != forms::TIMELINE {
+        return;
+    }
+    let at = u.core.flow.at;
+    let command = fields::command_at(parts::first(&text, u.core.flow.length), at);
+    let before = u.core.motor;
+    let after = turned.unit.core.motor;
+    let action = turned.action;
+    tell_left(
         next(n as u64),
-        next(f.at as u64),
-        taken(c.motor, command.len()),
-        d.motor,
+        next(at as u64),
+        taken(before, command.len()),
+        after,
         action,
+        command,
     );
-    telling::print(telling::TURN_LINE, numbers, command);
 }
 
 // Which command a turn takes: 0 where none is left, 1 where it serves a wait, else 2.
@@ -167,37 +145,22 @@ fn next(n: u64) -> u64 {
     if n < u64::MAX { n + 1 } else { n }
 }
 
-// The numbers of a turn's line, in the order of its row; nine are left over.
-fn numbers_of(
-    n: u64,
-    at: u64,
-    taken: u64,
-    m: Motor,
-    action: Action,
-) -> [u64; telling::MOST_NUMBERS] {
+// The same of what it leaves.
+fn tell_left(n: u64, at: u64, taken: u64, m: Motor, action: Action, command: &[u8]) {
     let direction = action.direction;
     let wait = m.wait;
-    let known = m.known as u64;
-    [
+    let numbers = [
         n,
         at,
         taken,
         m.position as u64,
-        known,
+        m.known as u64,
         wait_code(wait),
         wait_left(wait),
         unit::direction_code(direction),
         action.number as u64,
-        0,
-        0,
-        0,
-        0,
-        0,
-        0,
-        0,
-        0,
-        0,
-    ]
+    ];
+    telling::print(telling::TURN_LINE, &numbers, command);
 }
 
 // What a run waits for, as `timeline` names it.
@@ -212,6 +175,7 @@ fn wait_code(wait: Wait) -> u64 {
     }
 }
 
+// A move, or an endless one.
 fn move_code(endless: bool) -> u64 {
     if endless { 2 } else { 1 }
 }

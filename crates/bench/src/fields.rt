@@ -1,6 +1,5 @@
 // The fields of a line, parted by single spaces: where they are, and what each kind of field reads as.
 ghost use Prim.Native.Nat.{_≤_, _<_};
-ghost use lib.ListN.{length};
 use digits::Operand;
 
 // What ends a line.
@@ -61,15 +60,15 @@ pub(crate) fn past_nth(s: &[u8], from: usize, n: usize, byte: u8) -> usize {
     at
 }
 
-// The place of the field behind the one at a place.
-pub(crate) fn past_field(s: &[u8], at: usize) -> usize {
-    past(s, at, b' ')
-}
-
 // The field at a place.
 pub(crate) fn field_at(s: &[u8], at: usize) -> &[u8] {
+    piece_at(s, at, b' ')
+}
+
+// What stands from a place on, up to such a byte.
+pub(crate) fn piece_at(s: &[u8], at: usize, byte: u8) -> &[u8] {
     let t = rest(s, at);
-    let end = bytes::scan::find(t, 0, t.len(), b' ');
+    let end = bytes::scan::find(t, 0, t.len(), byte);
     &t[0..end]
 }
 
@@ -81,23 +80,19 @@ pub(crate) fn rest(s: &[u8], at: usize) -> &[u8] {
     &s[at..]
 }
 
-// n, but not more than the bytes there are.
-pub(crate) fn up_to(n: usize, bytes: &[u8]) -> usize
-    ensures { λ r. ⌜ (r ≤ n) × (r ≤ length (now (bytes .entry))) ⌝ }
+// The lesser of two.
+pub(crate) fn least(a: usize, b: usize) -> usize
+    ensures { λ r. ⌜ (r ≤ a) × (r ≤ b) ⌝ }
 {
-    if bytes.len() < n { bytes.len() } else { n }
+    if b < a { b } else { a }
 }
 
-// A field that is what it should be.
-pub(crate) fn fine(value: u64) -> Reading {
-    read_as(FINE, value)
-}
-
-// A field that is not.
+// A field that is not what it should be.
 pub(crate) fn wrong(fault: usize) -> Reading {
     read_as(fault, 0)
 }
 
+// What a field reads as, and whether others may follow it.
 pub(crate) fn read_as(fault: usize, value: u64) -> Reading {
     Reading {
         fault: fault,
@@ -152,7 +147,7 @@ fn is_dash(field: &[u8]) -> bool {
 // `-` and nothing else.
 pub(crate) fn none(field: &[u8]) -> Reading {
     if is_dash(field) {
-        fine(0)
+        read_as(FINE, 0)
     } else {
         wrong(MISSING)
     }
@@ -161,12 +156,13 @@ pub(crate) fn none(field: &[u8]) -> Reading {
 // A slot, 1 more than its number; 0 for `-`.
 pub(crate) fn slot(field: &[u8]) -> Reading {
     if is_dash(field) {
-        return fine(0);
+        return read_as(FINE, 0);
     }
     let n = number(field);
     read_as(n.fault, more(n.value))
 }
 
+// One more, but not past the greatest number.
 fn more(n: u64) -> u64 {
     if n < u64::MAX { n + 1 } else { n }
 }
@@ -174,13 +170,13 @@ fn more(n: u64) -> u64 {
 // 1 for `R`, 0 for `-`.
 pub(crate) fn run(field: &[u8]) -> Reading {
     if is_dash(field) {
-        return fine(0);
+        return read_as(FINE, 0);
     }
     if field.len() != 1 {
         return wrong(NO_RUN);
     }
     if field[0] == b'R' {
-        fine(1)
+        read_as(FINE, 1)
     } else {
         wrong(NO_RUN)
     }
@@ -189,13 +185,13 @@ pub(crate) fn run(field: &[u8]) -> Reading {
 // Bytes: `-`, or hex digits, two a byte. How many characters.
 pub(crate) fn hex(field: &[u8]) -> Reading {
     if is_dash(field) {
-        return fine(1);
+        return read_as(FINE, 1);
     }
     if field.len() % 2 == 1 {
         return wrong(ODD_HEX);
     }
     if are_digits(field) {
-        return fine(field.len() as u64);
+        return read_as(FINE, field.len() as u64);
     }
     wrong(NO_HEX)
 }
@@ -209,7 +205,7 @@ pub(crate) fn sequence(field: &[u8]) -> Reading {
         return wrong(NO_HEX);
     }
     let byte = value(field[0]) * 16 + value(field[1]);
-    fine(byte as u64)
+    read_as(FINE, byte as u64)
 }
 
 // Whether all bytes are hex digits.

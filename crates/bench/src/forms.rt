@@ -99,6 +99,9 @@ pub(crate) struct Task {
     pub(crate) c: u64,
     // Where the last field begins; of a reason where the name of the field stands in the table.
     pub(crate) at: usize,
+    // The part of the line that holds the bytes which it gives.
+    pub(crate) from: usize,
+    pub(crate) length: usize,
     // What is wrong with the last field, where its name stands in the table, and whether a number before it has over 32 bits.
     fault: usize,
     name: usize,
@@ -124,6 +127,8 @@ fn blank_task(row: usize, a: u64, at: usize) -> Task {
         b: 0,
         c: 0,
         at: at,
+        from: 0,
+        length: 0,
         fault: fields::FINE,
         name: 0,
         great: false,
@@ -161,8 +166,8 @@ fn read_fields(table: &[u8], row: usize, line: &[u8]) -> Task {
     let mut at = 0;
     let mut name = fields::past_nth(table, 0, row, LF);
     for _ in 0..MOST_FIELDS {
-        at = fields::past_field(line, at);
-        name = fields::past_field(table, name);
+        at = fields::past(line, at, b' ');
+        name = fields::past(table, name, b' ');
         let field = read_field(fields::field_at(table, name), line, at, t.great);
         t = with_field(t, field, at, name);
         if t.fault != fields::FINE {
@@ -268,6 +273,31 @@ fn task_of(row: usize, t: Task) -> Task {
     let mut u = t;
     u.row = row;
     u
+}
+
+// A task as it is for the unit of a number; 0 where there is none.
+pub(crate) fn for_unit(t: Task, number: u8) -> Task {
+    if number != 0 {
+        return t;
+    }
+    if needs_unit(t.row) {
+        return task_of(telling::NO_UNIT, t);
+    }
+    t
+}
+
+// Whether an operation is one on a unit.
+fn needs_unit(row: usize) -> bool {
+    match row {
+        FEED => true,
+        TURN => true,
+        RUN => true,
+        TIMELINE => true,
+        UNIT => true,
+        OEM => true,
+        TYPED => true,
+        _ => false,
+    }
 }
 
 // What was read, or why it is none of the operations.

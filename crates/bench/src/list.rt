@@ -14,7 +14,7 @@ pub(crate) fn count_of(list: &[u8]) -> usize {
         if !is_command(list, at) {
             return 0;
         }
-        at = past_command(list, at);
+        at = fields::past_nth(list, at, 2, b' ');
         if list.len() < at {
             return n + 1;
         }
@@ -31,14 +31,9 @@ pub(crate) fn list_of(list: &[u8]) -> [Command; MOST] {
             return commands;
         };
         commands[i] = c;
-        at = past_command(list, at);
+        at = fields::past_nth(list, at, 2, b' ');
     }
     commands
-}
-
-// The place behind a letter and its operand.
-fn past_command(list: &[u8], at: usize) -> usize {
-    fields::past_nth(list, at, 2, b' ')
 }
 
 // Whether a letter and its operand stand at a place.
@@ -55,7 +50,7 @@ fn command_at(list: &[u8], at: usize) -> Named {
     if letter.len() != 1 {
         return Named::NoCommand;
     }
-    let operand = fields::field_at(list, fields::past_field(list, at));
+    let operand = fields::field_at(list, fields::past(list, at, b' '));
     command_of(letter[0], operand_of(letter[0], operand))
 }
 

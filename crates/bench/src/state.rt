@@ -1,23 +1,12 @@
 // What the bench holds beside the bytes that it lends: those of image and answer buffer, and the two texts of the unit.
-use crate::telling::Answer;
 use drive::Record;
 
 pub(crate) struct Bench {
     // Its number is 0 until a start is not refused.
     pub(crate) unit: Record,
-    pub(crate) lent: Lent,
-}
-
-// How many bytes of the image, and of the answer buffer, are lent.
-pub(crate) struct Lent {
+    // How many bytes of the image, and of the answer buffer, are lent.
     pub(crate) image_bytes: usize,
     pub(crate) room: usize,
-}
-
-// The unit after an operation, and the answer.
-pub(crate) struct Done {
-    pub(crate) unit: Record,
-    pub(crate) answer: Answer,
 }
 
 // The bytes lent for the body being received, and for the current text.
@@ -36,25 +25,16 @@ pub(crate) const ROOM_MOST: usize = 512;
 const FIRST_ROOM: usize = 262;
 
 // What an answer buffer holds before anything is written in it.
-const BLANK: u8 = 0xa5;
+pub(crate) const BLANK: u8 = 0xa5;
 
 // The bench at its beginning: the image with all slots empty, and no unit but the record of a refused start.
-pub(crate) fn begin(
-    image: &mut [u8],
-    buffer: &mut [u8],
-    body: &mut [u8; BODY_BYTES],
-    text: &mut [u8; TEXT_BYTES],
-) -> Bench {
-    let n = empty(image);
-    blank(buffer);
-    let none = drive::start(0, image, body, text);
+pub(crate) fn begin(body: &mut [u8; BODY_BYTES], text: &mut [u8; TEXT_BYTES]) -> Bench {
+    let none = drive::start(0, b"", body, text);
     let unit = none.unit;
     Bench {
         unit: unit,
-        lent: Lent {
-            image_bytes: n,
-            room: FIRST_ROOM,
-        },
+        image_bytes: EMPTY_BYTES,
+        room: FIRST_ROOM,
     }
 }
 

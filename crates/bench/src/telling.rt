@@ -7,16 +7,8 @@ use crate::fields::LF;
 use crate::state;
 use libc::STDOUT_FILENO;
 
-// An answer: its row, the numbers, and of which bytes it tells.
-pub(crate) struct Answer {
-    pub(crate) row: usize,
-    pub(crate) numbers: [u64; MOST_NUMBERS],
-    pub(crate) at: usize,
-    pub(crate) length: usize,
-}
-
 // The most numbers of a row.
-pub(crate) const MOST_NUMBERS: usize = 18;
+const MOST_NUMBERS: usize = 18;
 
 // The rows past those of the operations, which stand in the order of their forms.
 pub(crate) const NO_UNIT: usize = 21;
@@ -25,11 +17,11 @@ pub(crate) const REASON: usize = 22;
 
 pub(crate) const TURN_LINE: usize = 23;
 
-const ROWS_BYTES: usize = 1186;
+const ROWS_BYTES: usize = 1187;
 
 const ROWS: [u8; ROWS_BYTES] = *b"image #
 image #
-room #
+room _#
 buffer *
 [started|refused unit-number|refused image-length|refused image-bad]
 [fed # *|refused buffer|refused image-length]
@@ -44,9 +36,9 @@ text [bad|ok]
 [ramp # # ^ ^ ^|refused V|refused L|refused N]
 [wrote *_|refused buffer_|refused #][| #]
 [packet ~ *|refused packet]
-[-_|idle #|busy #|refused buffer_|refused image-length_][| $]
+[-_|refused buffer_|refused image-length_|idle #|busy #][| $]
 [count #|refused letter_|refused count_|refused #][| #]
-[-_|idle #|busy #|refused buffer_|refused image-length_][| $]
+[-_|refused buffer_|refused image-length_|idle #|busy #][| $]
 $
 no unit
 ?[ no such operation| a field too many| too great| $ is missing| $ is not a number| $ has an odd digit| $ is not hex| $ is neither R nor -| $ has a bad command]
@@ -56,26 +48,22 @@ turn #: at # [end|-|$], position #[?|], wait [none_|move #|endless #|away #|towa
 // The longest answer is `store` of the longest image.
 const ANSWER_BYTES: usize = 6 + 2 * state::IMAGE_MOST + 1;
 
-// An answer of at most four numbers that tells of no bytes.
-pub(crate) fn said(row: usize, a: u64, b: u64, c: u64, d: u64) -> Answer {
-    said_of(row, a, b, c, d, 0, 0)
+// Writes a row with at most four numbers and no bytes.
+pub(crate) fn say(row: usize, a: u64, b: u64, c: u64, d: u64) {
+    say_of(row, a, b, c, d, b"");
 }
 
-// The same of n bytes from a place on.
-pub(crate) fn said_of(row: usize, a: u64, b: u64, c: u64, d: u64, at: usize, n: usize) -> Answer {
-    Answer {
-        row: row,
-        numbers: [a, b, c, d, 0, 0, 0, 0, 0, 0, 0, 0, 0, 0, 0, 0, 0, 0],
-        at: at,
-        length: n,
-    }
+// The same with bytes.
+pub(crate) fn say_of(row: usize, a: u64, b: u64, c: u64, d: u64, bytes: &[u8]) {
+    let numbers = [a, b, c, d];
+    print(row, &numbers, bytes);
 }
 
 // Writes a row, filled, in one write.
-pub(crate) fn print(row: usize, numbers: [u64; MOST_NUMBERS], bytes: &[u8]) {
+pub(crate) fn print(row: usize, numbers: &[u64], bytes: &[u8]) {
     let mut out = [0u8; ANSWER_BYTES];
-    let n = fill(&ROWS, row, &numbers, bytes, &mut out);
-    let end = fields::up_to(n, &out);
+    let n = fill(&ROWS, row, numbers, bytes, &mut out);
+    let end = fields::least(n, ANSWER_BYTES);
     io::write_all(STDOUT_FILENO, &out[0..end]);
 }
 
@@ -191,6 +179,7 @@ fn add_bytes(out: &mut [u8], at: usize, bytes: &[u8]) -> usize {
     next
 }
 
+// A byte as a number.
 fn wide(x: u8) -> u64 {
     x as u64
 }

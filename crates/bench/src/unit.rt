@@ -5,11 +5,8 @@ use crate::fields;
 use crate::forms;
 use crate::forms::Task;
 use crate::state;
-use crate::state::Done;
 use crate::telling;
-use crate::telling::Answer;
 use answers::Found;
-use answers::Packet;
 use drive::FeedAnswer;
 use drive::Last;
 use drive::Record;
@@ -18,7 +15,7 @@ use drive::TurnAnswer;
 use turns::Core;
 use turns::Direction;
 
-// Does an operation with the bytes that it gives, and with the image and the buffer that are lent.
+// Does an operation with the bytes that it gives, and with the image and the buffer that are lent, and tells its answer.
 pub(crate) fn perform(
     u: Record,
     t: Task,
@@ -27,52 +24,54 @@ pub(crate) fn perform(
     buffer: &mut [u8],
     body: &mut [u8; state::BODY_BYTES],
     text: &mut [u8; state::TEXT_BYTES],
-) -> Done {
-    if is_for_none(t.row, u.number) {
-        return Done {
-            unit: u,
-            answer: telling::said(telling::NO_UNIT, 0, 0, 0, 0),
-        };
+) -> Record {
+    if is_fed(t.row) {
+        return feed(u, t.row, given, image, buffer, body, text);
     }
-    let row = t.row;
-    match row {
-        forms::START => start(u, fields::byte_of(t.c), image, body, text),
-        forms::TURN => turn(u, t, text, image),
-        forms::FEED => feed(u, forms::FEED, given, image, buffer, body, text),
-        forms::OEM => feed(u, forms::OEM, given, image, buffer, body, text),
-        forms::TYPED => feed(u, forms::TYPED, given, image, buffer, body, text),
-        forms::RUN => course::run(u, t, text, image),
-        forms::TIMELINE => course::run(u, t, text, image),
-        _ => Done {
-            unit: u,
-            answer: ask(u, t, given, image.len(), buffer),
-        },
+    if is_made(t.row) {
+        return make(u, t, image, body, text);
     }
+    calls::ask(t, given, image, buffer);
+    u
 }
 
-// Whether an operation needs a unit where there is none.
-fn is_for_none(row: usize, number: u8) -> bool {
-    if number != 0 {
-        return false;
-    }
+// Whether an operation feeds the bytes that it gives.
+fn is_fed(row: usize) -> bool {
     match row {
         forms::FEED => true,
-        forms::TURN => true,
-        forms::RUN => true,
-        forms::TIMELINE => true,
-        forms::UNIT => true,
         forms::OEM => true,
         forms::TYPED => true,
         _ => false,
     }
 }
 
-// The answer to an operation that leaves the unit as it is.
-fn ask(u: Record, t: Task, given: &[u8], image_bytes: usize, buffer: &mut [u8]) -> Answer {
-    if t.row == forms::UNIT {
-        return tell(u);
+// Whether another operation is one on the unit.
+fn is_made(row: usize) -> bool {
+    match row {
+        forms::START => true,
+        forms::TURN => true,
+        forms::RUN => true,
+        forms::TIMELINE => true,
+        forms::UNIT => true,
+        _ => false,
     }
-    calls::ask(t, given, image_bytes as u64, buffer)
+}
+
+// A start, turns, or the unit told.
+fn make(
+    u: Record,
+    t: Task,
+    image: &[u8],
+    body: &mut [u8; state::BODY_BYTES],
+    text: &mut [u8; state::TEXT_BYTES],
+) -> Record {
+    let row = t.row;
+    match row {
+        forms::START => start(u, fields::byte_of(t.c), image, body, text),
+        forms::TURN => turn(u, t, text, image),
+        forms::UNIT => tell(u, text),
+        _ => course::run(u, t, text, image),
+    }
 }
 
 // `start N`
@@ -82,17 +81,15 @@ fn start(
     image: &[u8],
     body: &mut [u8; state::BODY_BYTES],
     text: &mut [u8; state::TEXT_BYTES],
-) -> Done {
+) -> Record {
     let s = drive::start(number, image, body, text);
-    let v = s.unit;
     let answer = s.answer;
     let k = start_code(answer);
-    Done {
-        unit: started(k, u, v),
-        answer: telling::said(forms::START, k, 0, 0, 0),
-    }
+    telling::say(forms::START, k, 0, 0, 0);
+    started(k, u, s.unit)
 }
 
+// The number of an answer among those of its row.
 fn start_code(answer: StartAnswer) -> u64 {
     match answer {
         StartAnswer::Started => 0,
@@ -119,16 +116,19 @@ fn feed(
     buffer: &mut [u8],
     body: &mut [u8; state::BODY_BYTES],
     text: &mut [u8; state::TEXT_BYTES],
-) -> Done {
+) -> Record {
     let f = drive::feed(u, body, text, bytes, image, buffer);
-    let v = f.unit;
     let answer = f.answer;
-    Done {
-        unit: v,
-        answer: tell_feed(row, feed_code(answer), f.consumed, f.answered, buffer),
-    }
+    tell_feed(
+        row,
+        feed_code(answer),
+        f.consumed,
+        parts::first(buffer, f.answered),
+    );
+    f.unit
 }
 
+// The number of an answer among those of its rows.
 fn feed_code(answer: FeedAnswer) -> u64 {
     match answer {
         FeedAnswer::Taken => 0,
@@ -138,39 +138,30 @@ fn feed_code(answer: FeedAnswer) -> u64 {
 }
 
 // How many bytes were consumed, and the answer; of a typed line the answer alone, as text.
-fn tell_feed(row: usize, k: u64, consumed: usize, answered: usize, buffer: &[u8]) -> Answer {
+fn tell_feed(row: usize, k: u64, consumed: usize, answered: &[u8]) {
     if row == forms::FEED {
-        return telling::said_of(row, k, consumed as u64, 0, 0, 0, answered);
+        return telling::say_of(row, k, consumed as u64, 0, 0, answered);
     }
-    if k == 1 {
-        return telling::said(row, 3, 0, 0, 0);
+    if k != 0 {
+        return telling::say(row, k, 0, 0, 0);
     }
-    if k == 2 {
-        return telling::said(row, 4, 0, 0, 0);
-    }
-    tell_packet(row, calls::read_either(parts::first(buffer, answered)))
+    tell_packet(row, answered);
 }
 
 // An answer as text; `-` where none came.
-fn tell_packet(row: usize, p: Packet) -> Answer {
+fn tell_packet(row: usize, answered: &[u8]) {
+    let p = calls::read_either(answered);
     let found = p.found;
     let Found::OnePacket = found else {
-        return telling::said(row, 0, 0, 0, 0);
+        return telling::say(row, 0, 0, 0, 0);
     };
-    let k = if p.idle { 1 } else { 2 };
-    telling::said_of(
-        row,
-        k,
-        p.code as u64,
-        (p.length != 0) as u64,
-        0,
-        p.at,
-        p.length,
-    )
+    let k = if p.idle { 3 } else { 4 };
+    let data = parts::part(answered, p.at, p.length);
+    telling::say_of(row, k, p.code as u64, (p.length != 0) as u64, 0, data);
 }
 
 // `turn SAMPLE MS STEPS`
-fn turn(u: Record, t: Task, text: &mut [u8; state::TEXT_BYTES], image: &[u8]) -> Done {
+fn turn(u: Record, t: Task, text: &mut [u8; state::TEXT_BYTES], image: &[u8]) -> Record {
     let turned = drive::turn(
         u,
         text,
@@ -179,22 +170,15 @@ fn turn(u: Record, t: Task, text: &mut [u8; state::TEXT_BYTES], image: &[u8]) ->
         fields::narrow(t.c),
         image,
     );
-    let v = turned.unit;
     let action = turned.action;
     let direction = action.direction;
     let answer = turned.answer;
-    Done {
-        unit: v,
-        answer: telling::said(
-            forms::TURN,
-            turn_code(answer, direction),
-            action.number as u64,
-            0,
-            0,
-        ),
-    }
+    let k = turn_code(answer, direction);
+    telling::say(forms::TURN, k, action.number as u64, 0, 0);
+    turned.unit
 }
 
+// The number of an answer among those of its row; of a turn that is made, by its direction.
 fn turn_code(answer: TurnAnswer, direction: Direction) -> u64 {
     match answer {
         TurnAnswer::Taken => direction_code(direction),
@@ -204,6 +188,7 @@ fn turn_code(answer: TurnAnswer, direction: Direction) -> u64 {
     }
 }
 
+// The number of a direction among those of an action.
 pub(crate) fn direction_code(direction: Direction) -> u64 {
     match direction {
         Direction::Still => 0,
@@ -213,19 +198,19 @@ pub(crate) fn direction_code(direction: Direction) -> u64 {
 }
 
 // `unit`
-fn tell(u: Record) -> Answer {
+fn tell(u: Record, text: &[u8]) -> Record {
     let c = u.core;
-    let f = c.flow;
     let last = u.last;
-    Answer {
-        row: forms::UNIT,
-        numbers: numbers_of(c, is_number(last), number_of(last)),
-        at: 0,
-        length: f.length,
-    }
+    tell_core(
+        c,
+        is_number(last),
+        number_of(last),
+        parts::first(text, u.core.flow.length),
+    );
+    u
 }
 
-// Whether an OEM frame was not refused, and the number of the last one.
+// Whether an OEM frame was not refused.
 fn is_number(last: Last) -> u64 {
     match last {
         Last::Never => 0,
@@ -233,6 +218,7 @@ fn is_number(last: Last) -> u64 {
     }
 }
 
+// The number of the last one; 0 for none.
 fn number_of(last: Last) -> u64 {
     match last {
         Last::Never => 0,
@@ -240,34 +226,34 @@ fn number_of(last: Last) -> u64 {
     }
 }
 
-// The numbers of a unit, in the order of their names.
-fn numbers_of(c: Core, is_last: u64, last: u64) -> [u64; telling::MOST_NUMBERS] {
-    let m = c.motor;
-    let known = m.known as u64;
-    let sample = m.sample as u64;
-    let s = c.settings;
-    [
+// The numbers of a unit, in the order of their names, and its text.
+fn tell_core(c: Core, is_last: u64, last: u64, text: &[u8]) {
+    let known = c.motor.known as u64;
+    let sample = c.motor.sample as u64;
+    let numbers = [
         c.running as u64,
         c.code as u64,
-        m.position as u64,
+        wide(c.motor.position),
         known,
-        s.speed as u64,
-        s.acceleration as u64,
-        step_size(s.exponent),
-        s.correction as u64,
-        s.moving as u64,
-        s.holding as u64,
-        s.flag as u64,
-        s.turned as u64,
-        s.outputs as u64,
-        wide(s.baud),
+        wide(c.settings.speed),
+        wide(c.settings.acceleration),
+        step_size(c.settings.exponent),
+        wide(c.settings.correction),
+        wide(c.settings.moving),
+        wide(c.settings.holding),
+        wide(c.settings.flag),
+        wide(c.settings.turned),
+        wide(c.settings.outputs),
+        wide(c.settings.baud),
         sample,
         is_last,
         last,
         c.endless as u64,
-    ]
+    ];
+    telling::print(forms::UNIT, &numbers, text);
 }
 
+// A number of 32 bits as one of 64.
 fn wide(n: u32) -> u64 {
     n as u64
 }

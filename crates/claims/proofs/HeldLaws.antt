@@ -2,8 +2,8 @@
 -- sets the number. Assumes nothing.
 use Prim.Native.Nat.{ℕ}
 use mathlib.Core.Path.{_≡_, refl, sym, ap, subst, _∙_}
-use mathlib.Core.List.{List, [], _∷_}
-use mathlib.Core.Bool.{Bool, true, false, cond, not, false≢true}
+use mathlib.Core.List.{List}
+use mathlib.Core.Bool.{Bool, true, false, not, false≢true}
 use borrow.Author.Tests.{not-true}
 use Rattle.parts.proofs.Laws.{cases}
 use Rattle.commands.specs.Table.{oneOf}
@@ -11,7 +11,7 @@ use Rattle.commands.proofs.TableLaws.{each, each-one}
 use Rattle.frames.specs.declared.Framing.{Framing}
 use Rattle.frames.specs.Receive.{ours}
 use Rattle.turns.specs.declared.Core.{Core}
-use Rattle.turns.specs.Turns.{freshCore, started}
+use Rattle.turns.specs.Turns.{started}
 use Rattle.obeying.specs.declared.Obeyed.{Obeyed}
 use Rattle.obeying.specs.Obeying.{loadedAs}
 use Rattle.obeying.specs.Deeds.{Obeys, refuses, tells, stores, clears, stops, resumes, speeds, again, loads}
@@ -23,9 +23,9 @@ use Rattle.drive.specs.Calls.{startOf, receivedBy, bodyBy, obeyedBy, feedOf, Tu
 use Rattle.drive.proofs.FeedLaws.{frame-does}
 use Rattle.stream.specs.Oem.{Heeded}
 use Rattle.stream.proofs.OemLaws.{numbers}
-use Rattle.runs.specs.Reach.{Call, Feed, Turn, after, Reached, fresh, called}
+use Rattle.runs.specs.Reach.{Call, feed, turn, after, Reached, fresh, called}
 use Rattle.runs.specs.Causes.{causeCodes}
-use Rattle.runs.specs.Claims.{NeverAstray, EndsExactly}
+use Rattle.runs.specs.Claims.{EndsExactly}
 use Rattle.runs.proofs.CallLaws.{framed, feed-cases, feed-done, turn-cases, turn-made}
 use Rattle.runs.proofs.ReachLaws.{reached-sound}
 use Rattle.runs.proofs.AstrayLaws.{never-astray}
@@ -54,10 +54,10 @@ obeys-code {c = c} h (loads run n r l) z =
     cases (λ (d : Core). d .running ≡ false → d .code ≡ c .code) run {x = started n c} {y = loadedAs n c} (λ q y. absurd (false≢true (sym y))) (λ q y. refl) z
 
 idle-code : (u : Drive) (c : Call) → u .core .running ≡ false → after c u .core .running ≡ false → after c u .core .code ≡ u .core .code
-idle-code u (Feed bytes image buffer) h =
+idle-code u (feed bytes image buffer) h =
     feed-cases u bytes image buffer (λ (text : List ℕ) (d : Core). d .running ≡ false → d .code ≡ u .core .code) (λ z. refl)
     (λ d. obeys-code h (frame-does (receivedBy u bytes .frame) (bodyBy u bytes) (u .core)))
-idle-code u (Turn sample ms steps image) h =
+idle-code u (turn sample ms steps image) h =
     turn-cases u sample ms steps image (λ (t : Turning). t .unit .core .running ≡ false → t .unit .core .code ≡ u .core .code) (λ a z. refl)
     (λ m z. ap (λ (v : Drive). v .core .code) (sym (turn-made u sample ms steps image m)) ∙ idle u sample ms steps image h m .code-same)
 
@@ -104,5 +104,5 @@ sets-number {u} r bytes image buffer q h f g k =
     let code : o .code ≡ o .core .code =
     subst (λ (x : Obeyed). x .code ≡ x .core .code) (sym (framed (receivedBy u bytes .frame) (bodyBy u bytes) (u .core) f)) (order-row (bodyBy u bytes) (u .core) .held k) in
     let held : oneOf causeCodes (o .code) ≡ true =
-    subst (λ (n : ℕ). oneOf causeCodes n ≡ true) (sym (code ∙ sym (ap (λ (c : Core). c .code) core))) (held-code (called (Feed bytes image buffer) r)) in
+    subst (λ (n : ℕ). oneOf causeCodes n ≡ true) (sym (code ∙ sym (ap (λ (c : Core). c .code) core))) (held-code (called (feed bytes image buffer) r)) in
     numbers u bytes image buffer q h f g ∙ rw (no-refusal (o .code) held)

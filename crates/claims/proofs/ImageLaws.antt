@@ -6,10 +6,11 @@ use mathlib.Core.List.{List, [], _∷_}
 use mathlib.Core.Bool.{Bool, true, false, and-eq-true-iff}
 use native.Mathlib.Omega.{arith}
 use lib.ListN.{length, getD, take, drop, length-take, length-drop}
-use lib.Seq.{getD-take, getD-drop, take-take}
+use lib.Seq.{getD-drop, take-take}
 use lib.Dec.{leb, eqb}
 use borrow.Author.Tests.{lt-ltb, le-ltb, le-leb, lt-leb, leb-true, eq-eqb, ne-eqb, eqb-true}
 use Rattle.parts.specs.Parts.{part}
+use Rattle.parts.proofs.Laws.{getD-part}
 use Rattle.digits.specs.Operand.{operandMost}
 use Rattle.lines.specs.Texts.{textGoodBy}
 use Rattle.image.specs.Image.{slots, wordAt, startIn, lengthIn, entryOf, slotBody, allZeros, goodAt, slotBy, slotsBy, slotText}
@@ -18,10 +19,6 @@ use Rattle.image.proofs.SlotLaws.{sound, slot-judged, no-slot, slots-each, slot
 use Rattle.claims.specs.Images.{startBits, lengthBits, SlotSo, EverySlot, ImageRow, StoreRow}
 
 -- ---- the bytes of a slot
-
-getD-part : (xs : List ℕ) (a n i : ℕ) → i < n → getD (part xs a n) i 0 ≡ getD xs (a + i) 0
-unfolding part
-getD-part xs a n i h = getD-take n (drop a xs) i 0 h ∙ getD-drop a xs i 0
 
 module _ (image : List ℕ) (k : ℕ) where
   abbrev entry : List ℕ

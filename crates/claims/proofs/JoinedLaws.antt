@@ -28,7 +28,7 @@ use Rattle.drive.proofs.StartLaws.{started-unit}
 use Rattle.stream.proofs.FitLaws.{fits-kept}
 use Rattle.stream.proofs.OemLaws.{chosen-is, chosen-not}
 use Rattle.keeping.proofs.CallLaws.{calls-keep}
-use Rattle.runs.specs.Reach.{Call, Feed, Turn, after, Reached, fresh, called}
+use Rattle.runs.specs.Reach.{Call, feed, turn, after, Reached, fresh, called}
 use Rattle.runs.proofs.CallLaws.{turn-cases}
 use Rattle.runs.proofs.ReachLaws.{reached-keeps, reached-sound, reached-fit}
 use Rattle.runs.proofs.PacketLaws.{answer-is}
@@ -50,13 +50,13 @@ module _ (frames : FrameClaims) where
 
   call-ready : (u : Drive) (c : Call) → Ready u → Ready (after c u)
   unfolding feedOf
-  call-ready u (Feed bytes image buffer) h =
+  call-ready u (feed bytes image buffer) h =
       cases P (ltb (length buffer) packetBytes) (λ b. h)
       (λ b. cases P (rightLength image) (λ i. (frames .receiving (u .receiver) (u .number) .sound bytes (h .0), h .1)) (λ i. h))
     where
       P : Feeding → Type 0
       P r = Ready (r .unit)
-  call-ready u (Turn sample ms steps image) h = turn-cases u sample ms steps image (λ (r : Turning). Ready (r .unit)) (λ a. h) (λ m. h)
+  call-ready u (turn sample ms steps image) h = turn-cases u sample ms steps image (λ (r : Turning). Ready (r .unit)) (λ a. h) (λ m. h)
 
   reached-ready : {u : Drive} → Reached u → Ready u
   unfolding freshUnit

@@ -1,7 +1,7 @@
 -- "Order of checks for a frame": what is obeyed has its tests in this order, and each kind of body has its code.
 -- Assumes nothing.
 use Prim.Native.Nat.{ℕ, zero, suc, _+_, _≤_, _<_}
-use mathlib.Core.Path.{_≡_, refl, sym, ap, subst}
+use mathlib.Core.Path.{_≡_, refl, subst}
 use mathlib.Core.List.{List, [], _∷_}
 use mathlib.Core.Bool.{Bool, true, false, cond, not, _&&_, _||_, and-false}
 use native.Mathlib.Omega.{arith}
@@ -163,14 +163,16 @@ module _ (c : Core) where
         go true e = begins-right e
         go false e = rw (only-empty b e) (other-right h e)
 
-  any-right : (b : List ℕ) → Right c (faultInOrder b c) (obeying.bodyObeyed b c)
+  -- where each body of at most 256 bytes has its code, every body has it
+  any-right : (b : List ℕ) → (length b ≤ mostBytes → AsKind b (beginsImmediate b) (immediate b) (resuming c b || onTheWay c b) (bodyOf b))
+      → Right c (faultInOrder b c) (obeying.bodyObeyed b c)
   unfolding faultInOrder obeying.bodyObeyed lineFault table.oneOf
-  any-right b = go (ltb mostBytes (length b)) refl
+  any-right b h = go (ltb mostBytes (length b)) refl
     where
       go : (t : Bool) → ltb mostBytes (length b) ≡ t
           → Right c (cond t (fault 2 0) (faultFor (beginsImmediate b) (immediate b) (c .running) (resuming c b || onTheWay c b) (lineFault b))) (obeying.bodyObeyed b c)
       go true e = rw (too-long b (ltb-true mostBytes (length b) e)) (refuses (fault 2 0) refl)
-      go false e = body-right b (ltb-false mostBytes (length b) e)
+      go false e = h (ltb-false mostBytes (length b) e)
 
 -- ---- the place
 
@@ -237,7 +239,7 @@ order-most b c =
 -- every body gets the code that the order names, and the place
 pub order-row : (b : List ℕ) (c : Core) → OrderRow b c
 order-row b c =
-    let h = any-right c b in
+    let h = any-right c b (body-right c b) in
     record {
       codes = h .codes;
       refused = h .refused;

@@ -38,7 +38,7 @@ use Rattle.drive.specs.Calls.{noUnit, freshUnit, starting, startOf, receivedBy,
 use Rattle.drive.proofs.AnswerLaws.{packet-fits}
 use Rattle.drive.proofs.FeedLaws.{put-nothing}
 use Rattle.claims.specs.Images.{EverySlot}
-use Rattle.claims.specs.Demand1.{From, StartRefused, StartRow, FrameRefused, frameFault, frameCode, placeData, refusalPacket, FeedRefused, FeedRow, TurnRefused, TurnRow, RampRefused, RampRow}
+use Rattle.claims.specs.Demand1.{From, StartRefused, StartRow, FrameRefused, frameFault, frameCode, placeData, refusalPacket, FeedRefused, FeedRow, OrderRow, TurnRefused, TurnRow, RampRefused, RampRow}
 use Rattle.claims.proofs.ImageLaws.{so-every, not-every}
 use Rattle.claims.proofs.OrderLaws.{order-row}
 
@@ -141,26 +141,25 @@ refused-last (Framing.Oem q) k last e = rw e
 
 module _ (u : Drive) (bytes image buffer : List ℕ) where
   module _ (l : 262 ≤ length buffer) (w : length image ≡ 4160) where
-    frame-refused : receivedBy u bytes .frame ≡ Frame.Alone → (frameCode u bytes ≡ 0 → ⊥)
-        → FrameRefused u bytes image buffer (refusalPacket u (receivedBy u bytes .framing) (frameFault u bytes))
-    unfolding feedOf answerTo
-    frame-refused f n =
-        let h = order-row (bodyBy u bytes) (u .core) in
-        let g = receivedBy u bytes .framing in
-        let same = refused-last g (frameCode u bytes) (u .last) (refusal (frameCode u bytes) (h .codes) n) in
-        rw (le-ltb (length buffer) 262 l, eq-eqb (length image) 4160 w, f, h .refused n, told-place _ _ _, front g _ _ buffer (h .three-digits) l, same)
-
     group-silent : receivedBy u bytes .frame ≡ Frame.Group → (feedOf u bytes image buffer .answered ≡ 0) × (feedOf u bytes image buffer .buffer ≡ buffer)
     unfolding feedOf
     group-silent f = rw (le-ltb (length buffer) 262 l, eq-eqb (length image) 4160 w, f) (refl, put-nothing buffer)
 
-    group-refused : receivedBy u bytes .frame ≡ Frame.Group → (frameCode u bytes ≡ 0 → ⊥) → FrameRefused u bytes image buffer []
-    unfolding feedOf
-    group-refused f n =
-        let h = order-row (bodyBy u bytes) (u .core) in
-        let g = receivedBy u bytes .framing in
-        let same = refused-last g (frameCode u bytes) (u .last) (refusal (frameCode u bytes) (h .codes) n) in
-        rw (le-ltb (length buffer) 262 l, eq-eqb (length image) 4160 w, f, h .refused n, put-nothing buffer, same)
+    module _ (h : OrderRow (bodyBy u bytes) (u .core)) where
+      frame-refused : receivedBy u bytes .frame ≡ Frame.Alone → (frameCode u bytes ≡ 0 → ⊥)
+          → FrameRefused u bytes image buffer (refusalPacket u (receivedBy u bytes .framing) (frameFault u bytes))
+      unfolding feedOf answerTo
+      frame-refused f n =
+          let g = receivedBy u bytes .framing in
+          let same = refused-last g (frameCode u bytes) (u .last) (refusal (frameCode u bytes) (h .codes) n) in
+          rw (le-ltb (length buffer) 262 l, eq-eqb (length image) 4160 w, f, h .refused n, told-place _ _ _, front g _ _ buffer (h .three-digits) l, same)
+
+      group-refused : receivedBy u bytes .frame ≡ Frame.Group → (frameCode u bytes ≡ 0 → ⊥) → FrameRefused u bytes image buffer []
+      unfolding feedOf
+      group-refused f n =
+          let g = receivedBy u bytes .framing in
+          let same = refused-last g (frameCode u bytes) (u .last) (refusal (frameCode u bytes) (h .codes) n) in
+          rw (le-ltb (length buffer) 262 l, eq-eqb (length image) 4160 w, f, h .refused n, put-nothing buffer, same)
 
   pub feed-row : FeedRow u bytes image buffer
   unfolding feedOf
@@ -169,6 +168,6 @@ module _ (u : Drive) (bytes image buffer : List ℕ) where
     image-length = λ l w. rw (le-ltb (length buffer) 262 l, ne-eqb (length image) 4160 w) (refused-feed _ FeedAnswer.ImageLength u image buffer refl);
     taken = λ l w. rw (le-ltb (length buffer) 262 l, eq-eqb (length image) 4160 w);
     group-silent = group-silent;
-    frame-refused = frame-refused;
-    group-refused = group-refused;
+    frame-refused = λ l w. frame-refused l w (order-row (bodyBy u bytes) (u .core));
+    group-refused = λ l w. group-refused l w (order-row (bodyBy u bytes) (u .core));
   }

@@ -23,12 +23,11 @@ use Rattle.commands.specs.declared.Asks.{Asks}
 use Rattle.commands.specs.declared.Asks.the-variants.{Unknown, Nothing, Required, OrElse}
 use Rattle.commands.specs.declared.Range.{Range}
 use Rattle.commands.specs.declared.Range.the-variants.{From, OneBit, Rate, Input}
-use Rattle.commands.specs.declared.Fault.{Fault}
 use Rattle.commands.specs.declared.Read.the-variants.{At, Bad, End}
 use Rattle.commands.specs.declared.Spelling.{Spelling}
 use Rattle.commands.specs.declared.Spelling.the-variants.{Alone, WithNumber, WithTwoDigits}
 use Rattle.commands.specs.Table.{Row, table, find, asksOf, commandOf, oneOf, within}
-use Rattle.commands.specs.Reading.{badOperand, required, orElse, letterAt, readBy, readAt}
+use Rattle.commands.specs.Reading.{outOfRange, required, orElse, letterAt, readBy, readAt}
 use Rattle.commands.specs.Writing.{spellingOf, permits, permitted, inRange, zeroed, SpellsCommand, full, bare-G, bare-H, follows, CommandAt}
 use Rattle.commands.proofs.RangeLaws.{input-most, two-digits, within-two}
 use Rattle.commands.proofs.SpellingLaws.{AsksFor, permits-for, follows-any}
@@ -125,7 +124,7 @@ module _ (s : List ℕ) (at l : ℕ) (here : drop at s ≡ l ∷ drop (at + 1) s
   moved : {c d : Command} {m n : ℕ} → At d m ≡ At c n → CommandAt s at d m → CommandAt s at c n
   moved {c} {d} {m} {n} e h = let x : c ≡ d = cc in let y : n ≡ m = cc in rw (x, y) h
 
-  refused : {f : Fault} {c : Command} {n : ℕ} → Bad f ≡ At c n → CommandAt s at c n
+  refused : {k p : ℕ} {c : Command} {n : ℕ} → Bad k p ≡ At c n → CommandAt s at c n
   refused e = let z : _≡_ {A = ℕ} 0 1 = cc in absurd (omega arith)
 
   as-number : (r : Range) (m next : ℕ) → AsksFor (asksOf l) r → spellingOf (commandOf l m) ≡ spellingIn r l m → operandUpTo operandMost s (at + 1) ≡ Number m next
@@ -154,7 +153,7 @@ module _ (s : List ℕ) (at l : ℕ) (here : drop at s ≡ l ∷ drop (at + 1) s
       go (Above next) w k = refused k
       go (Number m next) w k = taken (within r m (next - (at + 1))) refl k
         where
-          taken : (b : Bool) → within r m (next - (at + 1)) ≡ b → cond b (At (commandOf l m) next) (Bad (badOperand (at + 1))) ≡ At c n → CommandAt s at c n
+          taken : (b : Bool) → within r m (next - (at + 1)) ≡ b → cond b (At (commandOf l m) next) (Bad outOfRange (at + 1)) ≡ At c n → CommandAt s at c n
           taken true t j = moved j (as-number r m next a (q m) w t)
           taken false t j = refused j
 

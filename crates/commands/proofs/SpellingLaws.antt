@@ -26,7 +26,7 @@ use Rattle.commands.specs.declared.Read.the-variants.{At, Bad}
 use Rattle.commands.specs.declared.Spelling.{Spelling}
 use Rattle.commands.specs.declared.Spelling.the-variants.{Alone, WithNumber, WithTwoDigits}
 use Rattle.commands.specs.Table.{top, table, find, asksOf, commandOf, within}
-use Rattle.commands.specs.Reading.{badOperand, required, orElse, letterAt, readBy, readAt}
+use Rattle.commands.specs.Reading.{outOfRange, required, orElse, letterAt, readBy, readAt}
 use Rattle.commands.specs.Writing.{spellingOf, bytesOf, spelled as spelledOf, permits, permitted, inRange, zeroed, SpellsCommand, full, bare-G, bare-H, follows}
 use Rattle.commands.proofs.RangeLaws.{Uncounted, input-most, within-most, uncounted, two-digits, input-digits}
 
@@ -57,18 +57,18 @@ letter-number (OrElse q m) r l s at n next a e = rw (e, a) (go (leb n widest))
 
 -- within its range it is not above all ranges
 number-within : (l : ℕ) (r : Range) (n next at : ℕ) → (within r n (next - at) ≡ true → n ≤ widest)
-    → required l r (numberTo n next) at ≡ cond (within r n (next - at)) (At (commandOf l n) next) (Bad (badOperand at))
+    → required l r (numberTo n next) at ≡ cond (within r n (next - at)) (At (commandOf l n) next) (Bad outOfRange at)
 number-within l r n next at h = go (leb n widest) refl (within r n (next - at)) refl
   where
     go : (b : Bool) → leb n widest ≡ b → (d : Bool) → within r n (next - at) ≡ d
-        → required l r (cond b (Number n next) (Above next)) at ≡ cond d (At (commandOf l n) next) (Bad (badOperand at))
+        → required l r (cond b (Number n next) (Above next)) at ≡ cond d (At (commandOf l n) next) (Bad outOfRange at)
     go true q d e = rw e
     go false q true e = let f = le-leb n widest (h e) in let z : _≡_ {A = ℕ} 0 1 = cc in absurd (omega arith)
     go false q false e = refl
 
 -- more digits than may be: none of them is looked at
 letter-many : (k : Asks) (r : Range) (l : ℕ) (s : List ℕ) (at next : ℕ) → AsksFor k r → operandUpTo operandMost s at ≡ Above next
-    → letterAt operandMost k l s at ≡ Bad (badOperand at)
+    → letterAt operandMost k l s at ≡ Bad outOfRange at
 letter-many Unknown r l s at next a e = absurd a
 letter-many Nothing r l s at next a e = absurd a
 letter-many (Required q) r l s at next a e = rw e
@@ -92,7 +92,7 @@ module _ (s : List ℕ) (at l : ℕ) (rest : List ℕ) (e : drop at s ≡ l ∷ 
 -- a letter and a spelling of n
 read-number : (s rest : List ℕ) (at l n z : ℕ) (r : Range) → AsksFor (asksOf l) r → drop at s ≡ l ∷ (spelling z n ++ rest) → digitRun rest ≡ []
     → within r n (z + length (decimal n)) ≡ within r n 2 → (within r n 2 ≡ true → (n ≤ widest) × (z + length (decimal n) ≤ operandMost))
-    → readAt s at ≡ cond (within r n 2) (At (commandOf l n) (at + length (l ∷ spelling z n))) (Bad (badOperand (at + 1)))
+    → readAt s at ≡ cond (within r n 2) (At (commandOf l n) (at + length (l ∷ spelling z n))) (Bad outOfRange (at + 1))
 read-number s rest at l n z r a e t w h = read-letter s at l (spelling z n ++ rest) e ∙ go (leb (z + length (decimal n)) operandMost) refl (within r n 2) refl
   where
     next : ℕ
@@ -102,7 +102,7 @@ read-number s rest at l n z r a e t w h = read-letter s at l (spelling z n ++ re
     there = read-limited operandMost s rest (at + 1) z n (stands-rest s at l (spelling z n ++ rest) e) t
 
     go : (b : Bool) → leb (z + length (decimal n)) operandMost ≡ b → (d : Bool) → within r n 2 ≡ d
-        → letterAt operandMost (asksOf l) l s (at + 1) ≡ cond (within r n 2) (At (commandOf l n) (at + length (l ∷ spelling z n))) (Bad (badOperand (at + 1)))
+        → letterAt operandMost (asksOf l) l s (at + 1) ≡ cond (within r n 2) (At (commandOf l n) (at + length (l ∷ spelling z n))) (Bad outOfRange (at + 1))
     go true q d j =
         let count : next - (at + 1) ≡ z + length (decimal n) = omega arith in
         let same : within r n (next - (at + 1)) ≡ within r n 2 = ap (λ (k : ℕ). within r n k) count ∙ w in
@@ -148,7 +148,7 @@ abbrev Fits : Spelling → ℕ → Type 0
 Fits sp z = permitted sp ≡ true → length (zeroed sp z) ≤ 1 + operandMost
 
 read-row : {sp : Spelling} {c : Command} → RowOf sp c → (s rest : List ℕ) (at z : ℕ) → Fits sp z → drop at s ≡ zeroed sp z ++ rest → follows sp rest
-    → readAt s at ≡ cond (permitted sp) (At c (at + length (zeroed sp z))) (Bad (badOperand (at + 1)))
+    → readAt s at ≡ cond (permitted sp) (At c (at + length (zeroed sp z))) (Bad outOfRange (at + 1))
 read-row (alone l a b) s rest at z f e t = read-letter s at l rest e ∙ rw (a, b)
 read-row (number l n r a u b) s rest at z f e t =
     let few : within r n 2 ≡ true → z + length (decimal n) ≤ operandMost =
@@ -205,7 +205,7 @@ follows-any (WithTwoDigits l n) rest t = t
 
 -- what the host writes reads back, or is refused
 pub reads-back : (s rest : List ℕ) (at : ℕ) (c : Command) → drop at s ≡ spelledOf c ++ rest → digitRun rest ≡ []
-    → readAt s at ≡ cond (inRange c) (At c (at + length (spelledOf c))) (Bad (badOperand (at + 1)))
+    → readAt s at ≡ cond (inRange c) (At c (at + length (spelledOf c))) (Bad outOfRange (at + 1))
 unfolding inRange spelledOf
 reads-back s rest at c e t =
     let z = zeroed-none (spellingOf c) in

@@ -45,4 +45,4 @@ pub record RowIs (l : ℕ) (r : Lettered) : Type 0 where
 -- the letter's command with that number, or the fault at the letter's place
 abbrev pub fittedRead : ℕ → ℕ → Fitted → Read
 fittedRead l p (Fits n next) = At (commandOf l n) next
-fittedRead l p (Fails code) = Bad (fault code p)
+fittedRead l p (Fails code) = Bad code p

@@ -55,7 +55,8 @@ pub struct Fault {
 pub enum Read {
     // A command, and the place past it.
     At(Command, usize),
-    Bad(Fault),
+    // The code of a fault and its place, apart: a fault would share a word with a command, and be copied by bytes.
+    Bad(u8, usize),
     End,
 }
 
@@ -137,10 +138,7 @@ pub fn read_by(s: &[u8], at: usize, most: usize) -> Read
     let fitted = fitting::fit_at(asks, s, at + 1, most);
     match fitted {
         Fitted::Fits(n, next) => Read::At(fitting::numbered(command, n), next),
-        Fitted::Fails(code) => Read::Bad(Fault {
-            code: code,
-            place: at + 1,
-        }),
+        Fitted::Fails(code) => Read::Bad(code, at + 1),
     }
 }
 

@@ -68,22 +68,27 @@ cap-after (d ∷ ds) x =
     same : cap (cap x * 10 + d) ≡ cap (x * 10 + d)
     same = omega arith
 
+-- so numbers that are alike below the cap stay alike
+cap-same : (ds : List ℕ) (x y : ℕ) → cap x ≡ cap y → cap (valueAfter x ds) ≡ cap (valueAfter y ds)
+cap-same ds x y e = sym (cap-after ds x) ∙ ap (λ (n : ℕ). cap (valueAfter n ds)) e ∙ cap-after ds y
+
 -- what holds at place i of the run from `at`, with v read so far and d the digit there
 pub record Reading (s : List ℕ) (at i v d : ℕ) : Type 0 where
   pub digit : DigitAt s i d
-  pub small : v ≤ widest + 1
+  pub small : v ≤ widest * 10 + 9
   pub past : i + length (digitRun (drop i s)) ≡ at + length (digitRun (drop at s))
   pub same : cap (valueAfter v (digitRun (drop i s))) ≡ cap (valueAfter 0 (digitRun (drop at s)))
 
-pub next : (s : List ℕ) (at i v d v′ d′ : ℕ) → Reading s at i v d → d < 10 → v′ ≡ cap (v * 10 + d) → DigitAt s (i + 1) d′ → Reading s at (i + 1) v′ d′
+pub next : (s : List ℕ) (at i v d v′ d′ : ℕ) → Reading s at i v d → d < 10 → (cap v′ ≡ cap (v * 10 + d)) × (v′ ≤ widest * 10 + 9) → DigitAt s (i + 1) d′
+    → Reading s at (i + 1) v′ d′
 unfolding valueAfter
 next s at i v d v′ d′ r h e e′ =
     let step : digitRun (drop i s) ≡ d ∷ digitRun (drop (i + 1) s) = run-step s i d (r .digit) h in
     record {
       digit = e′;
-      small = omega arith;
+      small = e .1;
       past = let p = rw step at (r .past) in omega arith;
-      same = rw (e, cap-after (digitRun (drop (i + 1) s)) (v * 10 + d)) (rw step at (r .same));
+      same = cap-same (digitRun (drop (i + 1) s)) v′ (v * 10 + d) (e .0) ∙ rw step at (r .same);
     }
 
 pub within : (s : List ℕ) (at i v d : ℕ) → Reading s at i v d → d < 10 → i < length s

@@ -27,10 +27,8 @@ pub enum Written {
     NoRoom,
 }
 
-// The greatest number that 32 bits hold, and the least that they do not.
+// The greatest number that 32 bits hold.
 const WIDEST: u64 = 4294967295;
-
-const TOO_WIDE: u64 = WIDEST + 1;
 
 // The most digits of an operand.
 pub const OPERAND_MOST: usize = 10;
@@ -121,13 +119,15 @@ fn digit_at(s: &[u8], at: usize) -> u32
     (b - b'0') as u32
 }
 
-// A number with one digit more behind it; where 32 bits do not hold it, the least that they do not.
+// A number with one digit more behind it; one that 32 bits do not hold stays as it is, above all that they do.
 fn push(v: u64, d: u32) -> u64
-    requires { ⌜ (v ≤ widest + 1) × (d < 10) ⌝ }
-    ensures { λ w. ⌜ w ≡ min (v * 10 + d) (widest + 1) ⌝ }
+    requires { ⌜ (v ≤ widest * 10 + 9) × (d < 10) ⌝ }
+    ensures { λ w. ⌜ (min w (widest + 1) ≡ min (v * 10 + d) (widest + 1)) × (w ≤ widest * 10 + 9) ⌝ }
 {
-    let w = v * 10 + (d as u64);
-    if w <= TOO_WIDE { w } else { TOO_WIDE }
+    if WIDEST < v {
+        return v;
+    }
+    v * 10 + (d as u64)
 }
 
 // What is claimed of operands and decimals together.

@@ -1,14 +1,12 @@
 -- OEM frames: their numbers, and which body a repeat obeys. 02, E1.
 -- Assumes nothing.
 use Prim.Native.Nat.{ℕ, _%_}
-use mathlib.Core.List.{List, []}
-use mathlib.Core.Bool.{Bool, true, false, cond, not, _&&_, _||_}
+use mathlib.Core.List.{List, [], _∷_}
+use mathlib.Core.Bool.{Bool, false, cond, _&&_, _||_}
 use lib.Dec.{leb, eqb}
+use Rattle.parts.specs.Letters.{bytes}
 use Rattle.commands.specs.Reading.{malformed, outOfRange}
-use Rattle.lines.specs.declared.Immediate.{Immediate}
-use Rattle.lines.specs.declared.Immediate.the-variants.{Terminate, Status, CurrentText, Position, Speed, Sample, EndlessSpeed, StepSize, Correction, Clear}
-use Rattle.lines.specs.declared.Body.{Body}
-use Rattle.lines.specs.Bodies.{bodyOf}
+use Rattle.lines.specs.Bodies.{oneOfBodies}
 use Rattle.frames.specs.declared.Frame.{Frame}
 use Rattle.frames.specs.declared.Framing.{Framing}
 use Rattle.obeying.specs.Obeying.{busy}
@@ -28,28 +26,11 @@ isRepeat Last.Never (Framing.Oem q) = false
 isRepeat (Last.Number n) (Framing.Oem q) = repeats q && eqb (sequenceNumber q) n
 
 -- "a query other than `?9`": `Q`, `$`, `?0 ?2 ?4 ?6 ?7`, and with E3 `?5`
-abbrev pub asks : Immediate → Bool
-asks Terminate = false
-asks Status = true
-asks CurrentText = true
-asks Position = true
-asks Speed = true
-asks Sample = true
-asks EndlessSpeed = true
-asks StepSize = true
-asks Correction = true
-asks Clear = false
-
-abbrev pub kindAsks : Body → Bool
-kindAsks (Body.Refused f) = false
-kindAsks Body.Empty = false
-kindAsks (Body.Immediate i) = asks i
-kindAsks Body.Run = false
-kindAsks Body.Again = false
-kindAsks Body.Line = false
+abbrev pub queries : List (List ℕ)
+queries = bytes "Q" ∷ bytes "$" ∷ bytes "?0" ∷ bytes "?2" ∷ bytes "?4" ∷ bytes "?5" ∷ bytes "?6" ∷ bytes "?7" ∷ []
 
 unfoldable pub isQuery : List ℕ → Bool
-isQuery body = kindAsks (bodyOf body)
+isQuery = oneOfBodies queries
 
 -- "is answered as an empty body, or, if a query other than `?9`, by that query afresh; it is not obeyed"
 unfoldable pub chosen : Last → Framing → List ℕ → List ℕ

@@ -1,11 +1,10 @@
 // OEM frames: their numbers, and which body a repeat obeys.
 ghost use mathlib.Core.Path.{_≡_};
-ghost use Rattle.drive.specs.Repeats.{isRepeat, asks, isQuery, chosen, isRefusal, numberedBy, lastAfter};
+ghost use mathlib.Core.List.{[], _∷_};
+ghost use Rattle.drive.specs.Repeats.{isRepeat, isQuery, chosen, isRefusal, numberedBy, lastAfter};
 use crate::Last;
 use frames::Frame;
 use frames::Framing;
-use lines::Body;
-use lines::Immediate;
 
 // A sequence byte has its number in the low three bits, and bit 3 for a repeat.
 const NUMBERS: u8 = 8;
@@ -44,32 +43,42 @@ fn is_repeat(last: Last, framing: Framing) -> bool
 fn is_query(body: &[u8]) -> bool
     ensures { λ r. ⌜ r ≡ isQuery (now (body .entry)) ⌝ }
 {
-    let kind = lines::body_of(body);
-    match kind {
-        Body::Refused(_) => false,
-        Body::Empty => false,
-        Body::Immediate(i) => is_asking(i),
-        Body::Run => false,
-        Body::Again => false,
-        Body::Line => false,
+    let n = body.len();
+    if n == 1 {
+        return asks_alone(body[0]);
+    }
+    if n == 2 {
+        return asks_of(body[0], body[1]);
+    }
+    false
+}
+
+// Q, $
+fn asks_alone(b: u8) -> bool
+    ensures { λ r. ⌜ r ≡ isQuery (b ∷ []) ⌝ }
+{
+    match b {
+        b'Q' => true,
+        b'$' => true,
+        _ => false,
     }
 }
 
-// Whether an immediate body is one.
-fn is_asking(i: Immediate) -> bool
-    ensures { λ r. ⌜ r ≡ asks i ⌝ }
+// ?0 ?2 ?4 ?5 ?6 ?7
+fn asks_of(a: u8, b: u8) -> bool
+    ensures { λ r. ⌜ r ≡ isQuery (a ∷ b ∷ []) ⌝ }
 {
-    match i {
-        Immediate::Terminate => false,
-        Immediate::Status => true,
-        Immediate::CurrentText => true,
-        Immediate::Position => true,
-        Immediate::Speed => true,
-        Immediate::Sample => true,
-        Immediate::EndlessSpeed => true,
-        Immediate::StepSize => true,
-        Immediate::Correction => true,
-        Immediate::Clear => false,
+    if a != b'?' {
+        return false;
+    }
+    match b {
+        b'0' => true,
+        b'2' => true,
+        b'4' => true,
+        b'5' => true,
+        b'6' => true,
+        b'7' => true,
+        _ => false,
     }
 }
 

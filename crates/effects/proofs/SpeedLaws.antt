@@ -1,10 +1,10 @@
 -- The endless speed is set by such a line on the way and by a `P0` or `D0` that is taken, and by no other deed. Assumes nothing.
 use Prim.Native.Nat.{ℕ, _+_, _-_, _≤_}
 use mathlib.Core.Path.{_≡_, refl, sym, ap, subst, _∙_}
-use mathlib.Core.List.{List, [], _∷_, _++_}
+use mathlib.Core.List.{List, [], _∷_}
 use mathlib.Core.Bool.{Bool, true, false, cond, and-eq-true-iff, false≢true}
 use native.Mathlib.Omega.{arith}
-use lib.ListN.{length, getD, replicate, length-append, length-replicate}
+use lib.ListN.{length, replicate, length-append, length-replicate}
 use lib.Seq.{getD-at}
 use lib.Dec.{leb, eqb}
 use borrow.Author.Tests.{leb-true, le-leb, le-ltb, eq-eqb, eqb-true}
@@ -51,12 +51,11 @@ use Rattle.drive.specs.Unit.{Drive}
 use Rattle.drive.specs.Calls.{receivedBy, bodyBy, Turning}
 use Rattle.drive.proofs.FeedLaws.{frame-does}
 use Rattle.keeping.proofs.TurnLaws.{free}
-use Rattle.runs.specs.Reach.{Call, Feed, Turn, after, textOf}
+use Rattle.runs.specs.Reach.{Call, feed, turn, after, textOf}
 use Rattle.runs.specs.Causes.{Made}
 use Rattle.runs.proofs.CallLaws.{Completes, framed, feed-cases, feed-done, turn-cases}
 use Rattle.runs.proofs.CommandLaws.{turned}
 use Rattle.effects.specs.Bodies.{dataBy, Turns-to}
-use Rattle.effects.specs.Turns.{aTurn}
 use Rattle.effects.specs.Speed as speed
 use Rattle.effects.specs.Speed.{speedBody, OnTheWay, Sped, Relative, SetBy, on-the-way, from-v, Unset, none, more}
 use Rattle.effects.proofs.BodyLaws.{turns-to, each-body}
@@ -137,7 +136,7 @@ busy c zeros n run never short = go (isEndless (c .motor .wait)) refl
 
 -- ---- a feed call
 
-module _ (u : Drive) (bytes image buffer : List ℕ) (never : (n : ℕ) → SetBy u (Feed bytes image buffer) n → ⊥) where
+module _ (u : Drive) (bytes image buffer : List ℕ) (never : (n : ℕ) → SetBy u (feed bytes image buffer) n → ⊥) where
   obeys-stays : {o : Obeyed} → Completes u bytes image buffer → Obeys (bodyBy u bytes) (u .core) o → o .core .endless ≡ u .core .endless
   unfolding ended started loadedAs
   obeys-stays d (refuses f l p) = refl
@@ -152,7 +151,7 @@ module _ (u : Drive) (bytes image buffer : List ℕ) (never : (n : ℕ) → SetB
   obeys-stays d (again r) = refl
   obeys-stays d (loads run n r l) = cases (λ (c : Core). c .endless ≡ u .core .endless) run (λ q. refl) (λ q. refl)
 
-  feed-stays : after (Feed bytes image buffer) u .core .endless ≡ u .core .endless
+  feed-stays : after (feed bytes image buffer) u .core .endless ≡ u .core .endless
   feed-stays =
       feed-cases u bytes image buffer (λ (text : List ℕ) (c : Core). c .endless ≡ u .core .endless) refl
       (λ d. obeys-stays d (frame-does (receivedBy u bytes .frame) (bodyBy u bytes) (u .core)))
@@ -177,7 +176,7 @@ known-goes m a r = go (m .known) refl
     go false q e = let z : Stops 7 ≡ Goes a = rw q at e in let y : _≡_ {A = ℕ} 0 1 = cc in absurd (omega arith)
 
 module _ (u : Drive) (sample ms steps : ℕ) (image : List ℕ) (m : Made u sample steps image)
-    (never : (n : ℕ) → SetBy u (Turn sample ms steps image) n → ⊥) where
+    (never : (n : ℕ) → SetBy u (turn sample ms steps image) n → ⊥) where
   abbrev t : List ℕ
   t = textOf u
 
@@ -218,7 +217,7 @@ module _ (u : Drive) (sample ms steps : ℕ) (image : List ℕ) (m : Made u samp
     where
       go : (r : Read) → Stays (skipped r then)
       go (At d past) = refl
-      go (Bad f) = refl
+      go (Bad k p) = refl
       go End = refl
 
   command-stays : (d : Command) (next : ℕ) → c .running ≡ true → Reads t c (At d next) → Stays (commandTaken d next t image then .core)
@@ -232,7 +231,7 @@ module _ (u : Drive) (sample ms steps : ℕ) (image : List ℕ) (m : Made u samp
   read-stays : (r : Read) → c .running ≡ true → Reads t c r → Stays (readTaken r t image then .core)
   unfolding readTaken astray ended
   read-stays (At d next) run e = command-stays d next run e
-  read-stays (Bad f) run e = refl
+  read-stays (Bad k p) run e = refl
   read-stays End run e = refl
 
   abbrev After : Stepped → Type 0
@@ -255,8 +254,8 @@ module _ (u : Drive) (sample ms steps : ℕ) (image : List ℕ) (m : Made u samp
 
 pub stays : (u : Drive) (c : Call) → ((n : ℕ) → SetBy u c n → ⊥) → after c u .core .endless ≡ u .core .endless
 unfolding turnCore
-stays u (Feed bytes image buffer) never = feed-stays u bytes image buffer never
-stays u (Turn sample ms steps image) never =
+stays u (feed bytes image buffer) never = feed-stays u bytes image buffer never
+stays u (turn sample ms steps image) never =
     turn-cases u sample ms steps image (λ (r : Turning). r .unit .core .endless ≡ u .core .endless) (λ a. refl) (λ m. step-stays u sample ms steps image m never)
 
 pub sets : (u : Drive) (c : Call) (n : ℕ) → SetBy u c n → after c u .core .endless ≡ n

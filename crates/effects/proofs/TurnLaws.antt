@@ -27,7 +27,7 @@ use Rattle.motor.specs.declared.Last.{Last}
 use Rattle.motor.specs.declared.Moved.{Moved}
 use Rattle.motor.specs.declared.Moved.the-variants.{Goes, Stops}
 use Rattle.motor.specs.Inputs.{high, levelThere, falls, cut, clear}
-use Rattle.motor.specs.Motion.{freshMotor, last, waiting, placedAt, actionOf, room, reported, finite, homed, movedOn, relative, absolute, delayed, held, delayOn, endlessOn, toward, awayOn, towardOn, isFree, stopped, served}
+use Rattle.motor.specs.Motion.{freshMotor, last, waiting, placedAt, actionOf, room, reported, finite, homed, movedOn, relative, absolute, delayed, held, delayOn, endlessOn, awayOn, towardOn, isFree, stopped, served}
 use Rattle.turns.specs.declared.Core.{Core}
 use Rattle.turns.specs.declared.setting.Settings.{Settings}
 use Rattle.turns.specs.declared.Stepped.{Stepped}
@@ -38,24 +38,20 @@ use Rattle.turns.specs.Turns.{freshCore, started, withFlow, withMotor, withSett
 use Rattle.turns.specs.Ends.{Reads}
 use Rattle.turns.proofs.MoveLaws.{clash}
 use Rattle.turns.proofs.TurnLaws.{at-wait, turn-last}
-use Rattle.obeying.specs.declared.Obeyed.{Obeyed}
-use Rattle.obeying.specs.Obeying.{textWritten}
-use Rattle.obeying.specs.Deeds.{Obeys, refuses, tells, stores, clears, stops, resumes, speeds, again, loads}
 use Rattle.drive.specs.declared.StartAnswer.{StartAnswer}
 use Rattle.drive.specs.Unit.{Drive, drive}
-use Rattle.drive.specs.Calls.{begunWith, begunOn, freshUnit, startOf, mostSample, receivedBy, bodyBy, Turning, turnTaken, turnOf}
+use Rattle.drive.specs.Calls.{begunWith, begunOn, freshUnit, startOf, mostSample, Turning, turnTaken, turnOf}
 use Rattle.drive.proofs.StartLaws.{started-unit}
-use Rattle.drive.proofs.FeedLaws.{frame-does}
 use Rattle.keeping.proofs.TurnLaws.{free}
-use Rattle.runs.specs.Reach.{Feed, Turn, after, textOf}
+use Rattle.runs.specs.Reach.{feed, turn, after, textOf}
 use Rattle.runs.specs.Causes.{Made}
-use Rattle.runs.proofs.CallLaws.{feed-cases, turn-cases, turn-made}
+use Rattle.runs.proofs.CallLaws.{RunSame, feed-same, turn-cases, turn-made}
 use Rattle.runs.proofs.CommandLaws.{turned}
 use Rattle.runs.proofs.SoundLaws.{text-kept}
 use Rattle.answers.specs.Reading.{bit}
 use Rattle.effects.specs.Bodies.{homing}
 use Rattle.effects.specs.Turns as effects
-use Rattle.effects.specs.Turns.{Defaults, HeldAtStart, StartsWith, Levels, SameRun, Letter, Keeps, Idles, Flowing, listed, Plainly, SetsOne, then, Takes, here, atFlag, Leads, Sets, ATurn, aTurn, EachCommand, EachWait, Resting, Answers}
+use Rattle.effects.specs.Turns.{Defaults, HeldAtStart, StartsWith, Levels, SameRun, Letter, Keeps, Idles, Flowing, listed, Plainly, SetsOne, then, Takes, here, atFlag, Leads, Sets, ATurn, aTurn, HomesToward, EachCommand, EachWait, Resting, Answers}
 
 -- ---- a fresh start
 
@@ -166,29 +162,11 @@ levels s = record { low = low-so s; high = high-so s; fallen = λ before. refl }
 
 -- ---- calls that leave the run where it is
 
--- of a text and a core
-abbrev Same : List ℕ → Core → List ℕ → Core → Type 0
-Same text c text′ c′ = (text′ ≡ text) × (c′ .flow ≡ c .flow) × (c′ .settings ≡ c .settings) × (c′ .loaded ≡ c .loaded)
-
-same-run : {u v : Drive} → Same (u .text) (u .core) (v .text) (v .core) → SameRun u v
+same-run : {u v : Drive} → RunSame (u .text) (u .core) (v .text) (v .core) → SameRun u v
 same-run h = record { text-same = h .0; flow-same = h .1; settings-same = h .2; loaded-same = h .3 }
 
-obeys-same : {body : List ℕ} (text : List ℕ) {c : Core} {o : Obeyed} → c .running ≡ true → Obeys body c o → Same text c (textWritten (o .write) body text) (o .core)
-unfolding ended
-obeys-same text h (refuses f l p) = (refl, refl, refl, refl)
-obeys-same text h (tells t l) = (refl, refl, refl, refl)
-obeys-same text h (stores slot at n i l) = (refl, refl, refl, refl)
-obeys-same text h clears = (refl, refl, refl, refl)
-obeys-same text h (stops e r) = (refl, refl, refl, refl)
-obeys-same text h resumes = (refl, refl, refl, refl)
-obeys-same text h (speeds n s) = (refl, refl, refl, refl)
-obeys-same text h (again r) = clash h r
-obeys-same text h (loads run n r l) = clash h r
-
-pub feeds : (u : Drive) (bytes image buffer : List ℕ) → u .core .running ≡ true → SameRun u (after (Feed bytes image buffer) u)
-feeds u bytes image buffer h =
-    same-run (feed-cases u bytes image buffer (Same (u .text) (u .core)) (refl, refl, refl, refl)
-    (λ d. obeys-same (u .text) h (frame-does (receivedBy u bytes .frame) (bodyBy u bytes) (u .core))))
+pub feeds : (u : Drive) (bytes image buffer : List ℕ) → u .core .running ≡ true → SameRun u (after (feed bytes image buffer) u)
+feeds u bytes image buffer h = same-run (feed-same u bytes image buffer h)
 
 -- a step that stays in its text
 abbrev SameStep : Core → Stepped → Type 0
@@ -200,7 +178,7 @@ moved-same (Goes m) c = ((λ t i. refl), refl, refl, refl)
 moved-same (Stops k) c = ((λ t i. refl), refl, refl, refl)
 
 turn-same : (u : Drive) (sample ms steps : ℕ) (image : List ℕ) → SameStep (u .core) (stepOf sample ms steps (textOf u) image (u .core))
-    → SameRun u (after (Turn sample ms steps image) u)
+    → SameRun u (after (turn sample ms steps image) u)
 unfolding turnCore
 turn-same u sample ms steps image h =
     turn-cases u sample ms steps image (λ (r : Turning). SameRun u (r .unit)) (λ a. same-run (refl, refl, refl, refl))
@@ -218,10 +196,10 @@ wait-step sample ms steps t image c h = go (c .running) refl (isFree (c .motor .
     go true r true q = absurd (h (free (c .motor .wait) q))
     go true r false q = subst (SameStep c) (sym (at-wait sample ms steps t image c r (c .motor .wait) refl q)) (moved-same (served (c .motor .wait) (c .motor .sample) (c .settings .flag) ms steps (reported sample steps (c .motor))) (withMotor (reported sample steps (c .motor)) c))
 
-pub serves : (u : Drive) (sample ms steps : ℕ) (image : List ℕ) → (u .core .motor .wait ≡ Wait.Nothing → ⊥) → SameRun u (after (Turn sample ms steps image) u)
+pub serves : (u : Drive) (sample ms steps : ℕ) (image : List ℕ) → (u .core .motor .wait ≡ Wait.Nothing → ⊥) → SameRun u (after (turn sample ms steps image) u)
 serves u sample ms steps image h = turn-same u sample ms steps image (wait-step sample ms steps (textOf u) image (u .core) h)
 
-pub idles : (u : Drive) (sample ms steps : ℕ) (image : List ℕ) → u .core .running ≡ false → SameRun u (after (Turn sample ms steps image) u)
+pub idles : (u : Drive) (sample ms steps : ℕ) (image : List ℕ) → u .core .running ≡ false → SameRun u (after (turn sample ms steps image) u)
 idles u sample ms steps image h = turn-same u sample ms steps image (idle-step sample ms steps (textOf u) image (u .core) h)
 
 at-idle : (sample ms steps : ℕ) (t image : List ℕ) (c : Core) → c .running ≡ false
@@ -230,7 +208,7 @@ unfolding stepOf
 at-idle sample ms steps t image c h = rw h
 
 pub idle : (u : Drive) (sample ms steps : ℕ) (image : List ℕ) → u .core .running ≡ false → Made u sample steps image
-    → Idles u (after (Turn sample ms steps image) u) sample (here (aTurn u sample ms steps image))
+    → Idles u (after (turn sample ms steps image) u) sample (here (aTurn u sample ms steps image))
 unfolding turnCore reported
 idle u sample ms steps image h m =
     let e = turn-made u sample ms steps image m ∙ ap (λ (s : Stepped). turnTaken (settled s) image u .unit) (at-idle sample ms steps (textOf u) image (u .core) h) in
@@ -377,7 +355,7 @@ module _ (u : Drive) (sample ms steps : ℕ) (image : List ℕ) (run : u .core .
   homes-away n (next, r) q =
       leads-to (Wait.LegAway 10000 n) _ known (waiting (Wait.LegAway 10000 n) now) (commandOf 90 n) next r (rw (flag-cut true q)) refl refl refl refl
 
-  homes-toward : (n : ℕ) → n ≤ top → Takes t 90 n → atFlag t ≡ false → Leads t (Wait.LegToward (n + 400)) (here t) known
+  homes-toward : HomesToward t
   unfolding commandTaken acted commandOf find table reported homed
   homes-toward n l (next, r) q =
       let z : min n top ≡ n = omega arith in
@@ -412,7 +390,7 @@ module _ (u : Drive) (sample ms steps : ℕ) (image : List ℕ) (run : u .core .
     where
       go : (r : Read) → Kept (skipped r (withMotor now (u .core)))
       go (At d past) = on-kept (gone past (u .core .flow)) e
-      go (Bad f) = off-kept (u .core .code) (u .core .flow) e
+      go (Bad k p) = off-kept (u .core .code) (u .core .flow) e
       go End = off-kept (u .core .code) (u .core .flow) e
 
   jump-kept : (slot : ℕ) → u .core .motor .wait ≡ Wait.Nothing → Kept (jumped slot image (withMotor now (u .core)) .core)

@@ -10,7 +10,7 @@ use Rattle.turns.specs.declared.Core.{Core}
 use Rattle.drive.specs.Unit.{Drive}
 use Rattle.drive.specs.declared.StartAnswer.{StartAnswer}
 use Rattle.drive.specs.Calls.{startOf, turnOf}
-use Rattle.runs.specs.Reach.{Feed, Turn, after}
+use Rattle.runs.specs.Reach.{feed, turn, after}
 use Rattle.runs.specs.Causes.{Made}
 use Rattle.effects.specs.Bodies.{EachBody}
 use Rattle.effects.specs.Speed.{SpeedClaims}
@@ -26,13 +26,13 @@ pub record EffectClaims : Type 0 where
       → HeldAtStart (startOf number image body text .unit)
   pub bodies : (c : Core) (text image : List ℕ) → EachBody c text image
   -- "They are obeyed while running": no feed call moves a run
-  pub feeds : (u : Drive) (bytes image buffer : List ℕ) → u .core .running ≡ true → SameRun u (after (Feed bytes image buffer) u)
+  pub feeds : (u : Drive) (bytes image buffer : List ℕ) → u .core .running ≡ true → SameRun u (after (feed bytes image buffer) u)
   -- "A turn either serves that wait or takes exactly one command": one that serves takes none, an idle one neither
   pub serves : (u : Drive) (sample ms steps : ℕ) (image : List ℕ) → (u .core .motor .wait ≡ Wait.Nothing → ⊥)
-      → SameRun u (after (Turn sample ms steps image) u)
-  pub idles : (u : Drive) (sample ms steps : ℕ) (image : List ℕ) → u .core .running ≡ false → SameRun u (after (Turn sample ms steps image) u)
+      → SameRun u (after (turn sample ms steps image) u)
+  pub idles : (u : Drive) (sample ms steps : ℕ) (image : List ℕ) → u .core .running ≡ false → SameRun u (after (turn sample ms steps image) u)
   pub idle : (u : Drive) (sample ms steps : ℕ) (image : List ℕ) → u .core .running ≡ false → Made u sample steps image
-      → Idles u (after (Turn sample ms steps image) u) sample (here (aTurn u sample ms steps image))
+      → Idles u (after (turn sample ms steps image) u) sample (here (aTurn u sample ms steps image))
   pub waits : (u : Drive) (sample ms steps : ℕ) (image : List ℕ) → u .core .running ≡ true → Made u sample steps image
       → EachWait (aTurn u sample ms steps image)
   pub commands : (u : Drive) (sample ms steps : ℕ) (image : List ℕ) → u .core .running ≡ true → Made u sample steps image

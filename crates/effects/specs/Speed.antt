@@ -2,7 +2,7 @@
 -- Assumes nothing.
 use Prim.Native.Nat.{ℕ, _+_, _≤_}
 use mathlib.Core.Path.{_≡_}
-use mathlib.Core.List.{List, [], _∷_, _++_}
+use mathlib.Core.List.{List, _∷_, _++_}
 use mathlib.Core.Bool.{Bool, true}
 use lib.ListN.{length}
 use Rattle.digits.specs.Decimal.{decimal}
@@ -17,7 +17,7 @@ use Rattle.motor.specs.declared.Wait.{Wait}
 use Rattle.turns.specs.declared.Core.{Core}
 use Rattle.drive.specs.Unit.{Drive}
 use Rattle.drive.specs.Calls.{receivedBy, bodyBy}
-use Rattle.runs.specs.Reach.{Call, Feed, Turn, after}
+use Rattle.runs.specs.Reach.{Call, feed, turn, after}
 use Rattle.runs.specs.Causes.{Made}
 use Rattle.obeying.specs.Obeying.{refused, bodyObeyed}
 use Rattle.effects.specs.Bodies.{dataBy, Turns-to}
@@ -63,10 +63,10 @@ pub data Relative : ℕ → Type 0 where
 pub data SetBy (u : Drive) : Call → ℕ → Type 0 where
   -- "is obeyed while an endless move is on"
   on-the-way : {bytes image buffer : List ℕ} (zeros n : ℕ) → Hears u bytes image buffer (speedBody zeros n) → OnTheWay (u .core) zeros n
-      → SetBy u (Feed bytes image buffer) n
+      → SetBy u (feed bytes image buffer) n
   -- "a new `P0` or `D0` starts it from `V`": one that is taken, with the position known
   from-v : {sample ms steps l : ℕ} {image : List ℕ} → Made u sample steps image → u .core .running ≡ true → Relative l
-      → Takes (aTurn u sample ms steps image) l 0 → u .core .motor .known ≡ true → SetBy u (Turn sample ms steps image) (u .core .settings .speed)
+      → Takes (aTurn u sample ms steps image) l 0 → u .core .motor .known ≡ true → SetBy u (turn sample ms steps image) (u .core .settings .speed)
 
 -- any calls in any order lead from u to v, and none of them sets it
 pub data Unset (u : Drive) : Drive → Type 0 where

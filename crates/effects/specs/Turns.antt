@@ -18,7 +18,7 @@ use Rattle.turns.specs.Turns.{directionName}
 use Rattle.turns.specs.Ends.{Reads, positionThen}
 use Rattle.drive.specs.Unit.{Drive}
 use Rattle.drive.specs.Calls.{Turning}
-use Rattle.runs.specs.Reach.{Turn, after, textOf}
+use Rattle.runs.specs.Reach.{turn, after, textOf}
 use Rattle.effects.specs.Bodies.{homing}
 
 -- the run is where it was: its text, its place and open loops, the settings, and whether a line is loaded
@@ -147,7 +147,7 @@ abbrev pub aTurn : Drive → ℕ → ℕ → ℕ → List ℕ → ATurn
 aTurn u sample ms steps image = record { unit = u; sample = sample; ms = ms; steps = steps; image = image }
 
 abbrev pub then : ATurn → Drive
-then t = after (Turn (t .sample) (t .ms) (t .steps) (t .image)) (t .unit)
+then t = after (turn (t .sample) (t .ms) (t .steps) (t .image)) (t .unit)
 
 -- the command of the letter l with the number n stands at the place, and nothing is waited for
 abbrev pub Takes : ATurn → ℕ → ℕ → Type 0
@@ -178,6 +178,10 @@ Sets t i n = SetsOne (t .unit) (then t) (t .sample) (here t) i n
 abbrev pub Waits : ATurn → Wait → Type 0
 Waits t w = Leads t w (here t) (knownIn t)
 
+-- E2: "003 and 004 both say n + 400"
+abbrev pub HomesToward : ATurn → Type 0
+HomesToward t = (n : ℕ) → n ≤ top → Takes t (byte "Z") n → atFlag t ≡ false → Waits t (Wait.LegToward (n + 400))
+
 -- each command that is taken, by its letter
 pub record EachCommand (t : ATurn) : Type 0 where
   -- "`V` 1 to 16777216" and the other settings
@@ -205,7 +209,7 @@ pub record EachCommand (t : ATurn) : Type 0 where
   pub endless-down : Takes t (byte "D") 0 → knownIn t ≡ true → Leads t (Wait.Move false true (here t)) (here t) true
   -- `Z n`: "If cut, move away at most 10,000 ..; then toward zero at most n", and 400 more by E2
   pub homes-away : (n : ℕ) → Takes t (byte "Z") n → atFlag t ≡ true → Waits t (Wait.LegAway 10000 n)
-  pub homes-toward : (n : ℕ) → n ≤ top → Takes t (byte "Z") n → atFlag t ≡ false → Waits t (Wait.LegToward (n + 400))
+  pub homes-toward : HomesToward t
   -- "`e` makes the slot's text the current text (not where it stops the run with 1)"
   pub bad-slot : (n : ℕ) → Takes t (byte "e") n → then t .core .running ≡ false → textOf (then t) ≡ textOf (t .unit)
   -- `g`, `G`, `S` and `e`: where they lead is said of whole runs, and they touch no setting and not the position

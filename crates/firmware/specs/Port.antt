@@ -1,13 +1,10 @@
 -- What the C port answers, as numbers: "plain numbers and byte slices, for the line check, the image check and the ramp figures". 01.
 -- Assumes nothing.
-use Prim.Native.Nat.{ℕ, _+_}
+use Prim.Native.Nat.{ℕ}
 use mathlib.Core.List.{List}
 use mathlib.Core.Bool.{Bool, true, false, not}
 use lib.Dec.{eqb}
 use Rattle.lines.specs.Texts.{textGood}
-use Rattle.forecast.specs.declared.Counted.{Counted}
-use Rattle.forecast.specs.declared.Counted.the-variants.{Commands, Refused, Letter, TooMany}
-use Rattle.forecast.specs.Count.{countOf}
 use Rattle.image.specs.Calls.{checkedOf, checkedNumber}
 use Rattle.ramp.specs.declared.Figures.{Figures}
 use Rattle.ramp.specs.Ramp.{figuresOf, verdictNumber}
@@ -35,17 +32,3 @@ figures v l endless n = figuresOf v l (saysEndless endless) n
 -- 0 taken; 1, 2, 3 where V, L, N is refused
 unfoldable pub rampNumber : ℕ → ℕ → ℕ → ℕ → ℕ
 rampNumber v l endless n = verdictNumber (figures v l endless n .verdict)
-
--- 2^63: no count is so great, so the numbers from here on are refusals
-abbrev pub uncounted : ℕ
-uncounted = 9223372036854775808
-
--- 02, E14: a count, or 2^63 and: the line check's code, 4 for a letter, 5 for a count over the bound
-abbrev pub countNumber : Counted → ℕ
-countNumber (Commands k) = k
-countNumber (Refused f) = uncounted + f .code
-countNumber Letter = uncounted + 4
-countNumber TooMany = uncounted + 5
-
-unfoldable pub countedNumber : List ℕ → ℕ
-countedNumber body = countNumber (countOf body)

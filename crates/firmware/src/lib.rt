@@ -1,13 +1,9 @@
-// The C port: the line check, the count of commands, the image check and the ramp figures, through plain numbers and byte slices.
+// The C port: the line check, the image check and the ramp figures, through plain numbers and byte slices.
 ghost use mathlib.Core.Path.{_≡_};
 ghost use Rattle.lines.specs.Bodies.{lineFault, lineCode};
-ghost use Rattle.firmware.specs.Port.{textNumber, imageNumber, figures, rampNumber, countedNumber};
-use forecast::Counted;
+ghost use Rattle.firmware.specs.Port.{textNumber, imageNumber, figures, rampNumber};
 use image::Checked;
 use ramp::Figures;
-
-// 2^63: no count is so great.
-const UNCOUNTED: u64 = 9223372036854775808;
 
 // The code that an idle unit gives to a frame's body: 0, 2 or 3.
 #[no_mangle]
@@ -47,20 +43,6 @@ pub extern "C" fn dt_check_image(image: &[u8]) -> u32
         Checked::Good => 0,
         Checked::WrongLength => 1,
         Checked::Bad => 2,
-    }
-}
-
-// How many commands a run of a body's text takes; from 2^63 on the number of a refusal.
-#[no_mangle]
-pub extern "C" fn dt_count(body: &[u8]) -> u64
-    ensures { λ r. ⌜ r ≡ countedNumber (now (body .entry)) ⌝ }
-{
-    let counted = forecast::count(body);
-    match counted {
-        Counted::Commands(n) => n,
-        Counted::Refused(f) => UNCOUNTED + f.code as u64,
-        Counted::Letter => UNCOUNTED + 4,
-        Counted::TooMany => UNCOUNTED + 5,
     }
 }
 

@@ -12,7 +12,6 @@ use borrow.Author.Tests.{lt-ltb, le-leb}
 use Rattle.parts.proofs.Laws.{cases}
 use Rattle.commands.specs.declared.Command.{Command}
 use Rattle.commands.specs.declared.Command.the-variants.{LoopBegin, LoopEnd, Skip, Jump, Plain}
-use Rattle.commands.specs.declared.Fault.{Fault}
 use Rattle.commands.specs.declared.Read.the-variants.{At, Bad}
 use Rattle.commands.specs.Reading.{readAt}
 use Rattle.lines.specs.Texts.{mostOpen}
@@ -76,8 +75,8 @@ skipped-ok {t} {f} {k} {n} {l} {c} h e q = go c q (rw q at (rw e at (lawful (h .
 pub exactly : {t : List ℕ} {f : Flow} → FlowOk t f → opens (f .depth) (f .starts) ≡ enclosing t (f .at)
 exactly h = enclosed-by (h .place)
 
-pub no-fault : {t : List ℕ} {f : Flow} {x : Fault} → FlowOk t f → readAt t (f .at) ≡ Bad x → ⊥
-no-fault {t} {f} {x} h e = rw e at (lawful (h .checked) (h .place))
+pub no-fault : {t : List ℕ} {f : Flow} {k p : ℕ} → FlowOk t f → readAt t (f .at) ≡ Bad k p → ⊥
+no-fault {t} {f} h e = rw e at (lawful (h .checked) (h .place))
 
 -- ---- a loop begun
 

@@ -6,9 +6,8 @@ use mathlib.Core.Bool.{false}
 use native.Mathlib.Omega.{arith}
 use lib.ListN.{length}
 use Rattle.commands.specs.declared.Command.{Command}
-use Rattle.commands.specs.declared.Fault.{Fault}
 use Rattle.commands.specs.declared.Read.the-variants.{At, Bad, End}
-use Rattle.commands.specs.Reading.{readAt}
+use Rattle.commands.specs.Reading.{fault, readAt}
 use Rattle.commands.proofs.ReadingLaws.{read-step}
 use Rattle.lines.specs.Texts.{Reading, commands, faulty, placed, unplaced, before, readingFrom}
 use Rattle.lines.proofs.TextLaws.{reading-law}
@@ -33,7 +32,7 @@ pub tally-on : {t : List ℕ} {y : Tally} {at : ℕ} {c : Command} {n : ℕ} →
 tally-on {t} {y} {at} {c} {n} h e =
     record { same = h .same ∙ rw (reading-law t at, e) (told-next y _ c (readingFrom t n)); inside = read-step t at e .1 }
 
-pub tally-bad : {t : List ℕ} {y : Tally} {at : ℕ} {f : Fault} → Tallying t y at → readAt t at ≡ Bad f → Refused f ≡ textCounted t
+pub tally-bad : {t : List ℕ} {y : Tally} {at k p : ℕ} → Tallying t y at → readAt t at ≡ Bad k p → Refused (fault k p) ≡ textCounted t
 tally-bad {t} {y} {at} h e = sym (h .same ∙ rw (reading-law t at, e))
 
 pub tally-end : {t : List ℕ} {y : Tally} {at : ℕ} → Tallying t y at → readAt t at ≡ End → tallyTold y ≡ textCounted t

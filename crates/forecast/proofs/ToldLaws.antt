@@ -2,7 +2,8 @@
 use Prim.Native.Nat.{ℕ}
 use mathlib.Core.Path.{_≡_, refl, sym, ap, subst, _∙_}
 use mathlib.Core.List.{List, [], _∷_, _++_}
-use mathlib.Core.Bool.{Bool, true, false, cond, _||_, false≢true}
+use mathlib.Core.Bool.{Bool, true, false, cond, false≢true}
+use mathlib.Mathlib.Data.Bool.Basic.{or-eq-false-eq-eq-false-and-eq-false as neither}
 use lib.Dec.{leb, eqb}
 use borrow.Author.Tests.{leb-true, eqb-false}
 use Rattle.commands.specs.declared.Command.{Command}
@@ -20,27 +21,23 @@ use Rattle.forecast.proofs.BodyLaws.{text-of-checked}
 
 -- ---- a text without the letters
 
-neither : (a b : Bool) → (a || b) ≡ false → (a ≡ false) × (b ≡ false)
-neither true b e = absurd (false≢true (sym e))
-neither false b e = (refl, e)
-
 barred-join : (ds es : List Command) → anyBarred (ds ++ es) ≡ false → (anyBarred ds ≡ false) × (anyBarred es ≡ false)
 unfolding anyBarred
 barred-join [] es e = (refl, e)
 barred-join (d ∷ ds) es e =
-    let h = neither (barred d) (anyBarred (ds ++ es)) e in
+    let h = neither (barred d) (anyBarred (ds ++ es)) .0 e in
     let k = barred-join ds es (h .1) in
     (rw (h .0) (k .0), k .1)
 
 steady : (c : Course) → anyBarred (written c) ≡ false → Steady c
 unfolding anyBarred written
 steady ends e = tt
-steady (plain a c) e = steady c (neither (barredAct a) (anyBarred (written c)) e .1)
+steady (plain a c) e = steady c (neither (barredAct a) (anyBarred (written c)) .0 e .1)
 steady (skip i c) e = absurd (false≢true (sym e))
 steady (jump i c) e = absurd (false≢true (sym e))
 steady (loop body n c) e =
     let h = barred-join (written body) (LoopEnd n ∷ written c) e in
-    let k = neither (eqb n 0) (anyBarred (written c)) (h .1) in
+    let k = neither (eqb n 0) (anyBarred (written c)) .0 (h .1) in
     (eqb-false n 0 (k .0), steady body (h .0), steady c (k .1))
 
 -- ---- what the answer says

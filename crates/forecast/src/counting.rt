@@ -8,6 +8,7 @@ use crate::Counted;
 use crate::Tally;
 use commands::Act;
 use commands::Command;
+use commands::Fault;
 use commands::Read;
 
 // 2^63 - 1.
@@ -34,8 +35,11 @@ pub(crate) fn count_text(text: &[u8]) -> Counted
                 tally = tally_one(tally, c);
                 at = next;
             }
-            Read::Bad(f) => {
-                return Counted::Refused(f);
+            Read::Bad(code, place) => {
+                return Counted::Refused(Fault {
+                    code: code,
+                    place: place,
+                });
             }
             Read::End => {
                 return tell(tally);

@@ -5,7 +5,7 @@ use native.Mathlib.Nat.{add-zero, zero-add, add-suc, suc-add}
 use native.Mathlib.Numerals.{add-one}
 use native.Mathlib.Omega.{arith}
 use mathlib.Core.Path.{_≡_, refl, ap, sym, _∙_}
-use mathlib.Core.Bool.{true, false, true≢false}
+use mathlib.Core.Bool.{true, false, and-eq-true-iff, true≢false}
 use mathlib.Core.Logic.{inl, inr}
 use mathlib.Core.List.{List, [], _∷_, _++_}
 use lib.ListN.{length, take, drop, set, length-append, length-take, length-drop, take-append-drop}
@@ -22,7 +22,7 @@ use Rattle.frames.specs.Receive.{Receiver, Received, mostKept, bodyIn, o
 use Rattle.frames.specs.Receive.{begunPlain, stored, good, heard, begunOem, elsewhere, byteReceived, past, endedHere, receiveOf}
 use Rattle.frames.specs.Pieces.{completed}
 use Rattle.frames.specs.Claims.{free, frameOf, oemOf, sumOf, Sound, Whole, Skipped}
-use Rattle.frames.proofs.Bools.{bool, both}
+use Rattle.frames.proofs.Bools.{bool}
 use Rattle.frames.proofs.Steps.{free-cons, begins-plain, step-address, step-inside}
 use Rattle.frames.proofs.Addresses.{low}
 use Rattle.frames.proofs.Stream.{past-zero, past-more, receive-quiet, something}
@@ -177,7 +177,7 @@ all-stored w q s bs r o = rw o (go bs (receiverAt (Place.OemBody w q s) 0 (r .bo
 heard-free : (u a q : ℕ) (body : List ℕ) → ours (calledOf u a) ≡ true → good q ≡ true → free etx body ≡ true
     → free etx (a ∷ q ∷ body) ≡ true
 heard-free u a q body o g f =
-    let l : 0x30 ≤ q = leb-true 0x30 q (both (leb 0x30 q) (leb q 0x3F) g .0) in
+    let l : 0x30 ≤ q = leb-true 0x30 q (and-eq-true-iff (leb 0x30 q) (leb q 0x3F) .0 g .0) in
     simp (
       calls u a slash (omega arith) o,
       calls u a stx (omega arith) o,

@@ -17,7 +17,7 @@ use Rattle.parts.specs.Letters.{slash, cr, stx, etx}
 use Rattle.frames.specs.Receive.{Receiver, Received, placed, Stepped, quiet, heard, elsewhere, byteReceived}
 use Rattle.frames.specs.Receive.{past, endedHere, receiveOf}
 use Rattle.frames.specs.Claims.{free, sumOf, Foreign, unmoved}
-use Rattle.frames.proofs.Bools.{cases}
+use Rattle.parts.proofs.Laws.{cases}
 use Rattle.frames.proofs.Steps.{free-cons, begins-plain, begins-oem, step-address, step-outside, step-oem-address}
 use Rattle.frames.proofs.Stream.{past-zero, past-more, receive-quiet, cut}
 use Rattle.frames.proofs.Oem.{storedAllFor, before-sum, oem-is, sum-ends, length-oem}

@@ -18,7 +18,7 @@ use Rattle.parts.specs.Letters.{stx, etx}
 use Rattle.frames.specs.Receive.{Receiver, Received, placed, quiet, finished, storedFor, heard}
 use Rattle.frames.specs.Receive.{begunOem, elsewhere, past, endedHere, onward, Stepped, receiveOf}
 use Rattle.frames.specs.Claims.{free, oemOf, sumOf}
-use Rattle.frames.proofs.Bools.{cases}
+use Rattle.parts.proofs.Laws.{cases}
 use Rattle.frames.proofs.Steps.{free-cons, begins-oem, step-oem-address, step-oem-sequence, step-oem-body, step-oem-end}
 use Rattle.frames.proofs.Steps.{step-oem-sum}
 use Rattle.frames.proofs.Stream.{past-zero, past-past, past-more, receive-quiet}

@@ -3,7 +3,7 @@
 use Prim.Native.Nat.{ℕ, _<_}
 use native.Mathlib.Omega.{arith}
 use mathlib.Core.Path.{_≡_, refl, ap, sym, _∙_}
-use mathlib.Core.Bool.{true, false, cond, true≢false}
+use mathlib.Core.Bool.{true, false, cond, and-true, and-false, true≢false}
 use mathlib.Core.Logic.{inl, inr}
 use mathlib.Core.List.{List, _∷_}
 use lib.ListN.{length-set}
@@ -19,7 +19,8 @@ use Rattle.frames.specs.Receive.{Receiver, mostKept, ours, placed, Stepp
 use Rattle.frames.specs.Receive.{closedByCr, heard, begunOem, storedFor, otherByte, elsewhere, begins, byteReceived}
 use Rattle.frames.specs.Pieces.{completed, inPlain}
 use Rattle.frames.specs.Claims.{free, Sound, Ends}
-use Rattle.frames.proofs.Bools.{bool, cases, and-no, and-yes, none-of}
+use Rattle.parts.proofs.Laws.{cases}
+use Rattle.frames.proofs.Bools.{bool, none-of}
 
 -- in a plain body
 pub taken-inside : (p : Place) (u b : ℕ) (r : Receiver) → ours (completed p) ≡ true
@@ -73,7 +74,7 @@ inside-elsewhere (Place.OemSum w q s) i = absurd (true≢false (sym i))
 pub step-plain : (r : Receiver) (u b : ℕ) → ours (completed (r .place)) ≡ true
     → byteReceived r u b ≡ inPlain (completed (r .place)) b r
 unfolding byteReceived
-step-plain r u b i = rw (inside-elsewhere (r .place) i, and-yes (eqb b slash), and-yes (eqb b stx), taken-inside (r .place) u b r i)
+step-plain r u b i = rw (inside-elsewhere (r .place) i, and-true (eqb b slash), and-true (eqb b stx), taken-inside (r .place) u b r i)
 
 pub step-outside : (r : Receiver) (u b : ℕ) → r .place ≡ Place.Outside → eqb b slash ≡ false → eqb b stx ≡ false
     → byteReceived r u b ≡ quiet r
@@ -126,7 +127,7 @@ pub step-oem-sum : (r : Receiver) (u : ℕ) (w : Frame) (q s c : ℕ)
     → byteReceived (placed (Place.OemSum w q s) r) u c
     ≡ cond (eqb c s) (finished w (Framing.Oem q) (placed Place.Outside r)) (quiet (placed Place.Outside r))
 unfolding byteReceived
-step-oem-sum r u w q s c = simp and-no
+step-oem-sum r u w q s c = simp and-false
 
 -- WHAT A BYTE COMPLETES
 abbrev Completing : Place → ℕ → Stepped → Type 0

@@ -366,10 +366,13 @@ fn completes(p: Place) -> Frame
     }
 }
 
-// Whether a byte ends a plain body: the CR, or a new frame.
+// Whether a byte ends a plain body: the CR, or a new frame. All three are at most `/`, and letters and digits are above it.
 fn leaves(b: u8) -> bool
     ensures { λ r. ⌜ r ≡ leavesBody b ⌝ }
 {
+    if SLASH < b {
+        return false;
+    }
     if b == CR {
         return true;
     }

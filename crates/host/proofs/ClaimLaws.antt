@@ -10,7 +10,7 @@ use lib.ListN.{length, getD, take, length-append, List·getD-append}
 use lib.Dec.{ltb, eqb}
 use borrow.Author.Tests.{lt-ltb, le-ltb, leb-true, leb-false, eqb-true, eqb-false, ne-eqb}
 use Rattle.parts.specs.Parts.{fitsAt, put, same, mostBytes}
-use Rattle.parts.proofs.Laws.{take-put, drop-put, length-put, put-front}
+use Rattle.parts.proofs.Laws.{cases, take-put, drop-put, length-put, put-front}
 use Rattle.parts.specs.Letters.{bytes}
 use Rattle.digits.specs.Decimal.{digitsIn, digitsOf, ascii, decimal}
 use Rattle.digits.proofs.Writing.{decimal-last, decimal-more, length-some}
@@ -133,11 +133,7 @@ count-over l count h = rw (lt-ltb mostBytes count h)
 
 pub no-place : (l : HostList) (count : ℕ) → mostBytes < length (writtenOf l) → placeOf l count ≡ 0
 unfolding placeOf
-no-place l count h = rw (over-long (writtenOf l) h) (none (ltb mostBytes count))
-  where
-    none : (o : Bool) → _≡_ {A = ℕ} (cond o 0 0) 0
-    none true = refl
-    none false = refl
+no-place l count h = rw (over-long (writtenOf l) h) (cases (λ (k : ℕ). k ≡ 0) (ltb mostBytes count) (λ e. refl) (λ e. refl))
 
 -- each command has a byte at least
 commands-bytes : (cs : List Command) → length cs ≤ length (commandsText cs)

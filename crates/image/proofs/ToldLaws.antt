@@ -7,9 +7,10 @@ use native.Mathlib.Omega.{arith}
 use native.Mathlib.Decide.{decLt}
 use lib.Dec.{eqb}
 use lib.ListN.{length, getD, take, drop, replicate, length-take, length-drop, take-append-drop}
-use lib.Seq.{ext-getD, getD-take, getD-drop}
+use lib.Seq.{ext-getD}
 use borrow.Author.Tests.{eqb-true}
 use Rattle.parts.specs.Parts.{part, padded}
+use Rattle.parts.proofs.Laws.{getD-part}
 use Rattle.image.specs.Image.{imageBytes, slots, entryBytes, entryOf, bodyBytes, byteValues, contentsBytes, startIn, lengthIn, slotStart, word, wordAt, slotBody, allZeros, slotGood, slotText, entryFor}
 use Rattle.image.specs.declared.Checked.{Checked}
 use Rattle.image.specs.Calls.{checkedOf}
@@ -23,10 +24,6 @@ zeros-are [] h = refl
 zeros-are (b ∷ bs) h =
     let e : b ≡ 0 = eqb-true b 0 (and-left (eqb b 0) (allZeros bs) h) in
     rw (e, ← zeros-are bs (and-right (eqb b 0) (allZeros bs) h))
-
-getD-part : (xs : List ℕ) (a n i : ℕ) → i < n → getD (part xs a n) i 0 ≡ getD xs (a + i) 0
-unfolding part
-getD-part xs a n i h = getD-take n (drop a xs) i 0 h ∙ getD-drop a xs i 0
 
 -- four bytes that say a start and a length are their entry
 entry-told : (e : List ℕ) (start n : ℕ) → length e ≡ entryBytes → ((i : ℕ) → i < entryBytes → getD e i 0 < byteValues)

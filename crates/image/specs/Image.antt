@@ -95,9 +95,6 @@ unfoldable pub slotsBy : ℕ → List ℕ → ℕ → Bool
 slotsBy most image zero = true
 slotsBy most image (suc k) = slotsBy most image k && slotBy most image k
 
-abbrev pub slotsGood : List ℕ → ℕ → Bool
-slotsGood image n = slotsBy operandMost image n
-
 -- for start alone: slots 0 to n - 1 are good but for such operands
 abbrev pub slotsOlder : List ℕ → ℕ → Bool
 slotsOlder image n = slotsBy mostBytes image n

@@ -22,7 +22,7 @@ use Rattle.drive.specs.Unit.{Drive}
 use Rattle.drive.specs.Calls.{begunWith, begunOn, freshUnit, receivedBy, bodyBy, Feeding, feedOf, mostSample, Turning, turnOf}
 use Rattle.obeying.specs.Deeds.{loads}
 use Rattle.drive.proofs.FeedLaws.{frame-does}
-use Rattle.keeping.specs.Kept.{Kept, HoldsOf, CallsKeep}
+use Rattle.keeping.proofs.Kept.{Kept, HoldsOf, CallsKeep}
 use Rattle.keeping.proofs.TurnLaws.{step-does}
 
 idle : freshCore .running ≡ false

@@ -49,7 +49,7 @@ record Before (t : List ℕ) (at : ℕ) (f : Fault) : Type 0 where
   ranges : allInRange cs ≡ true
   whole : drop at t ≡ front ++ drop (f .place - 1) t
   counted : at + length front + 1 ≡ f .place
-  there : readAt t (f .place - 1) ≡ Bad f
+  there : readAt t (f .place - 1) ≡ Bad (f .code) (f .place)
 
 before-faulty : (c : Placed) (r : Reading) (f : Fault) → before c r ≡ faulty f → r ≡ faulty f
 before-faulty c (commands cs) f e = no (cc)
@@ -83,9 +83,9 @@ before-here : (t : List ℕ) (at : ℕ) (f : Fault) (r : Read) → readAt t at �
     → ((c : Command) (n : ℕ) → readAt t at ≡ At c n → readingFrom t n ≡ faulty f → Before t n f) → Before t at f
 unfolding allInRange
 before-here t at f (At c n) q w rest = before-more t at c n f q (rest c n q (before-faulty (placed (at + 1) c) (readingFrom t n) f w))
-before-here t at f (Bad g) q w rest =
-    let same : g ≡ f = cc in
-    let p : g .place ≡ at + 1 = rw q at (read-place t at) in
+before-here t at f (Bad code place) q w rest =
+    let same : fault code place ≡ f = cc in
+    let p : place ≡ at + 1 = rw q at (read-place t at) in
     let here : f .place - 1 ≡ at = omega (arith, ap (λ (x : Fault). x .place) same) in
     record {
       cs = [];
@@ -94,7 +94,7 @@ before-here t at f (Bad g) q w rest =
       ranges = refl;
       whole = ap (λ (m : ℕ). drop m t) (sym here);
       counted = omega (arith, ap (λ (x : Fault). x .place) same);
-      there = ap (λ (m : ℕ). readAt t m) here ∙ q ∙ ap Bad same;
+      there = ap (λ (m : ℕ). readAt t m) here ∙ q ∙ ap (λ (x : Fault). Bad (x .code) (x .place)) same;
     }
 before-here t at f End q w rest = no (cc)
 
@@ -219,13 +219,13 @@ module _ (b : List ℕ) (m : length b ≤ mostBytes) where
           let w = before-bad s g q in
           let inside = bad-inside s (g .place - 1) (w .there) in
           let place : at + g .place ≡ f .place = ap (λ (x : Fault). x .place) same in
-          let there : readAt t (f .place - 1) ≡ Bad f =
+          let there : readAt t (f .place - 1) ≡ Bad (f .code) (f .place) =
           ap (λ (x : ℕ). readAt t x) (let z : f .place - 1 ≡ length head + (g .place - 1) = omega (arith, w .counted, long) in z)
           ∙ ap (λ (x : List ℕ). readAt x (length head + (g .place - 1))) text
           ∙ read-on head s (g .place - 1)
           ∙ ap (onRead (length head)) (w .there)
-          ∙ ap (λ (k : ℕ). Bad (fault (g .code) (k + g .place))) long
-          ∙ ap Bad same in
+          ∙ ap (λ (k : ℕ). Bad (g .code) (k + g .place)) long
+          ∙ ap (λ (x : Fault). Bad (x .code) (x .place)) same in
           by-command there
           (reads-before b (drop (g .place - 1) s ++ runText run) (f .place) (into slot zeros few) (w .spelt) h (w .ranges) (body (w .front) (drop (g .place - 1) s) (w .whole))
           (omega (arith, w .counted, long))

@@ -3,7 +3,7 @@
 use Prim.Native.Nat.{ℕ, _≤_, _<_}
 use mathlib.Core.Path.{_≡_, refl, sym, ap, _∙_}
 use mathlib.Core.List.{List, [], _++_, append-nil, append-assoc}
-use mathlib.Core.Bool.{Bool, true, false, _&&_}
+use mathlib.Core.Bool.{Bool, true, false, _&&_, and-true, and-false}
 use native.Mathlib.Omega.{arith}
 use native.Mathlib.Decide.{decLt}
 use lib.ListN.{length, drop, length-drop}
@@ -75,14 +75,6 @@ same-check least most t l h =
 pub good-now : (t : List ℕ) → textGood t ≡ olderGood t && fewDigits operandMost t
 good-now t = go (fewDigits operandMost t) refl (textGood t) refl
   where
-    and-true : (b : Bool) → (b && true) ≡ b
-    and-true true = refl
-    and-true false = refl
-
-    and-false : (b : Bool) → (b && false) ≡ false
-    and-false true = refl
-    and-false false = refl
-
     go : (f : Bool) → fewDigits operandMost t ≡ f → (g : Bool) → textGood t ≡ g → textGood t ≡ olderGood t && fewDigits operandMost t
     go true q g e = rw (q, and-true (olderGood t)) (sym (same-check operandMost mostBytes t (omega arith) q))
     go false q true e = let h = checked-few t (text-checked t e) in let z : _≡_ {A = ℕ} 0 1 = cc in absurd (omega arith)

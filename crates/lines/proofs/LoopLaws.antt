@@ -11,7 +11,7 @@ use Rattle.commands.specs.declared.Command.{Command}
 use Rattle.commands.specs.declared.Command.the-variants.{LoopBegin, LoopEnd, Skip, Jump, Plain}
 use Rattle.commands.specs.declared.Read.{Read}
 use Rattle.commands.specs.declared.Read.the-variants.{At, Bad, End}
-use Rattle.commands.specs.Reading.{readAt}
+use Rattle.commands.specs.Reading.{fault, readAt}
 use Rattle.commands.proofs.ReadingLaws.{read-step}
 use Rattle.lines.specs.declared.Judged.the-variants.{Passes}
 use Rattle.lines.specs.Texts.{Reading, commands, faulty, Placed, placed, unplaced, before, goesOn, readingFrom, structured, skippable, rest, faultPlaces, storedPlaces, judgedPlaces, judged, lineJudged, storable, storedBy, storedJudged, mostOpen}
@@ -131,7 +131,7 @@ skip-lawful t n cs e s = go (readAt t n) (sym (reading-law t n) ∙ e) s
 
     go : (r : Read) → goesOn n r (λ m. readingFrom t m) ≡ commands cs → skippable (unplaced cs) ≡ true → Skippable r
     go (At c m) q k = with-one c m cs q k
-    go (Bad f) q k = let z : _≡_ {A = ℕ} 0 1 = cc in absurd (omega arith)
+    go (Bad x p) q k = let z : _≡_ {A = ℕ} 0 1 = cc in absurd (omega arith)
     go End q k = let w : cs ≡ [] = cc in no (rw w at k)
 
 -- every place that is reached is a command's or the end, and what stands there is lawful
@@ -152,7 +152,7 @@ lawful {t} {at} {st} h p = go (readAt t at) refl (rest-at h p)
 
     go : (r : Read) → readAt t at ≡ r → Rest t at (length st) → Lawful t (length st) r
     go (At c n) e q = kind c n (take-one q e)
-    go (Bad f) e q = let w : faulty f ≡ commands (q .left) = sym (reading-law t at ∙ rw e) ∙ q .reads in let z : _≡_ {A = ℕ} 0 1 = cc in absurd (omega arith)
+    go (Bad x p) e q = let w : faulty (fault x p) ≡ commands (q .left) = sym (reading-law t at ∙ rw e) ∙ q .reads in let z : _≡_ {A = ℕ} 0 1 = cc in absurd (omega arith)
     go End e q = ended (q .left) (sym (reading-law t at ∙ rw e) ∙ q .reads) (q .holds)
 
 -- "at most four open"

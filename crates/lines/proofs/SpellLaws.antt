@@ -65,7 +65,7 @@ reading-spells [] s at e = go (readAt s at) refl (sym (reading-law s at) ∙ e)
   where
     go : (r : Read) → readAt s at ≡ r → goesOn at r (λ n. readingFrom s n) ≡ commands [] → SpelledFrom [] s at
     go (At c n) q k = let w = before-is (placed (at + 1) c) (readingFrom s n) [] k in let z : _≡_ {A = ℕ} 0 1 = cc (w .2) in no z
-    go (Bad f) q k = no (cc)
+    go (Bad x p) q k = no (cc)
     go End q k = spelled-none s at q
 reading-spells (placed p c ∷ cs) s at e = go (readAt s at) refl (sym (reading-law s at) ∙ e) (λ n w. reading-spells cs s n w)
   where
@@ -78,7 +78,7 @@ reading-spells (placed p c ∷ cs) s at e = go (readAt s at) refl (sym (reading-
         let y : cs ≡ w .0 = cc in
         let reads : readingFrom s n ≡ commands cs = rw y (w .1) in
         spelled-more s at c n (unplaced cs) (rw x q) (rest n reads)
-    go (Bad f) q k rest = no (cc)
+    go (Bad x p) q k rest = no (cc)
     go End q k rest = no (cc)
 
 -- ---- a line, a store

@@ -14,14 +14,14 @@ use Rattle.digits.specs.ReadBack.{spelling}
 use Rattle.commands.specs.declared.Read.the-variants.{At, Bad}
 use Rattle.commands.specs.Table.{oneOf}
 use Rattle.commands.specs.declared.Fault.{Fault}
-use Rattle.commands.specs.Reading.{fault, malformed, outOfRange, badOperand, readAt}
+use Rattle.commands.specs.Reading.{fault, readAt}
 use Rattle.lines.specs.declared.Body.{Body}
 use Rattle.lines.specs.declared.Taken.{Taken}
-use Rattle.lines.specs.Texts.{Placed, unplaced, goesOn, readingFrom, mostOpen, structured, storable, faultPlaces, storedPlaces, leftmost, textGoodBy, textGood, olderGood}
-use Rattle.lines.specs.Bodies.{bodyOf, textEnd, lineOf, mostSlot, takenCode, lineFault, lineCode}
+use Rattle.lines.specs.Texts.{Placed, unplaced, goesOn, readingFrom, structured, storable, faultPlaces, storedPlaces, leftmost, textGoodBy, textGood, olderGood}
+use Rattle.lines.specs.Bodies.{bodyOf, textEnd, lineOf, takenCode, lineFault, lineCode}
 use Rattle.lines.specs.Lists.{HostList, runText, writtenOf, allInRange, slotInRange, shaped, listFault, listCode, list, listOf, Spells}
 use Rattle.lines.specs.Loops.{Enclosed, enclosing, Checked, Lawful}
-use Rattle.lines.specs.Examples.{examples, each, olders, eachOlder, operands, eachOperand}
+use Rattle.lines.specs.Examples.{examples, leftmosts, each, olders, eachOlder, operands, eachOperand}
 
 -- a body of at most 256 bytes spells a list with nothing wrong in it
 pub record SpelledAs (l : HostList) (b : List ℕ) : Type 0 where
@@ -37,7 +37,7 @@ pub record Spelled (b : List ℕ) : Type 0 where
 
 -- what is stored from a line: "a slot 0 to 15", "the text between slot and `R`", which passes "the check for stored text"
 pub record StoredFrom (b : List ℕ) (slot at n : ℕ) : Type 0 where
-  pub slot-most : slot ≤ mostSlot
+  pub slot-most : slot ≤ 15
   pub inside : at + n ≤ length b
   pub good : textGood (part b at n) ≡ true
   -- the body is `s`, the slot, that text and `R`: "leading zeros allowed"
@@ -65,14 +65,14 @@ pub record ReadsBefore (b : List ℕ) (p : ℕ) : Type 0 where
   pub means : HostList
   pub spells : Spells means (cutAt p b)
   pub in-range : (slotInRange (means .slot) && allInRange (means .listed)) ≡ true
-  pub taken : lineCode (cutAt p b) ≡ cond (shaped (means .slot) (means .listed) (means .run)) 0 malformed
+  pub taken : lineCode (cutAt p b) ≡ cond (shaped (means .slot) (means .listed) (means .run)) 0 2
 
 -- why a line is refused, and where: all of it reads and its structure is at fault; or a command of it is bad, told at its first byte;
 -- or the slot is, told at the `s`
 pub data Because (b : List ℕ) (f : Fault) : Type 0 where
-  by-structure : (l : HostList) → Spells l b → listFault l ≡ malformed → f .code ≡ malformed → Because b f
-  by-command : readAt (take (textEnd b) b) (f .place - 1) ≡ Bad f → ReadsBefore b (f .place) → Because b f
-  by-slot : getD b 0 0 ≡ byte "s" → f ≡ badOperand 1 → ReadsBefore b 1 → Because b f
+  by-structure : (l : HostList) → Spells l b → listFault l ≡ 2 → f .code ≡ 2 → Because b f
+  by-command : readAt (take (textEnd b) b) (f .place - 1) ≡ Bad (f .code) (f .place) → ReadsBefore b (f .place) → Because b f
+  by-slot : getD b 0 0 ≡ byte "s" → f ≡ fault 3 1 → ReadsBefore b 1 → Because b f
 
 -- a fault at one of n bytes, or just behind them
 pub record PlacedIn (n : ℕ) (f : Fault) : Type 0 where
@@ -98,7 +98,7 @@ pub record LineClaims : Type 0 where
   pub good-now : (t : List ℕ) → textGood t ≡ olderGood t && fewDigits operandMost t
   pub older-most : (most : ℕ) (t : List ℕ) → mostBytes ≤ most → textGoodBy most t ≡ olderGood t
   -- "(2)", "(3)": there is no other code
-  pub codes : (b : List ℕ) → oneOf (0 ∷ malformed ∷ outOfRange ∷ []) (lineCode b) ≡ true
+  pub codes : (b : List ℕ) → oneOf (0 ∷ 2 ∷ 3 ∷ []) (lineCode b) ≡ true
   -- "the first fault from the left": a text read from a place is its command there, then the text read from behind it
   pub from-the-left : (t : List ℕ) (at : ℕ) → readingFrom t at ≡ goesOn at (readAt t at) (λ n. readingFrom t n)
   -- a command ends within its text: with its spelling (`CommandAt`) that leaves one next place
@@ -112,7 +112,7 @@ pub record LineClaims : Type 0 where
   pub place-there : (b : List ℕ) → length b ≤ mostBytes → (lineCode b ≡ 0 → ⊥) → PlacedIn (length b) (lineFault b)
   pub place-none : (b : List ℕ) → lineCode b ≡ 0 → lineFault b .place ≡ 0
   pub place-most : (b : List ℕ) → lineFault b .place ≤ mostBytes + 1
-  pub over-long : (b : List ℕ) → mostBytes < length b → lineFault b ≡ fault malformed 0
+  pub over-long : (b : List ℕ) → mostBytes < length b → lineFault b ≡ fault 2 0
   -- a refused line has one of three reasons; what stands before a fault of the reading is good up to structure
   pub because : (b : List ℕ) (f : Fault) → bodyOf b ≡ Body.Line → lineOf b ≡ Taken.Refused f → Because b f
   -- what is stored may be stored, and may run
@@ -126,11 +126,13 @@ pub record LineClaims : Type 0 where
   pub lawful : {t : List ℕ} {at : ℕ} {starts : List ℕ} → Checked t → Enclosed t at starts
       → Lawful t (length starts) (readAt t at)
   -- "at most four open"
-  pub at-most-four : {t : List ℕ} {at : ℕ} {starts : List ℕ} → Checked t → Enclosed t at starts → length starts ≤ mostOpen
+  pub at-most-four : {t : List ℕ} {at : ℕ} {starts : List ℕ} → Checked t → Enclosed t at starts → length starts ≤ 4
   -- the loops open at a place are those that enclose it, whatever way was run
   pub enclosed-by : {t : List ℕ} {at : ℕ} {starts : List ℕ} → Enclosed t at starts → starts ≡ enclosing t at
   -- K5 to K8, K11 and the edges around them
   pub edges : each examples ≡ true
+  -- "the first fault from the left .. then structure"; 02, E6: "the leftmost of"
+  pub first-told : each leftmosts ≡ true
   -- 02, E9: stored texts at the edges of ten digits
   pub older-edges : eachOlder olders ≡ true
   -- the table of commands: the last good and the first bad operand of every row

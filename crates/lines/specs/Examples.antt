@@ -32,9 +32,10 @@ examples =
     ∷ example (bytes "A2147483648R") 3 1
     -- "Reading digits into 32 bits and testing after: 4294967297 becomes 1"
     ∷ example (bytes "A4294967297R") 3 1
-    -- K6, K7: "at most four open", "each `G` closes the nearest open `g`"
+    -- K6, K7: "at most four open", "each `G` closes the nearest open `g`"; 02, E6: "a fifth `g` (it still opens)"
     ∷ example (bytes "ggggP1G2G2G2G2R") 0 0
     ∷ example (bytes "gggggP1G2G2G2G2G2R") 2 5
+    ∷ example (bytes "gggggP1G1G1G1G1G1G1R") 2 5
     ∷ example (bytes "G1R") 2 1
     ∷ example (bytes "gP1R") 2 1
     -- K8: "`S` is neither last nor directly before `g` or `G`"
@@ -54,33 +55,12 @@ examples =
     ∷ example (bytes "A5RA6") 2 3
     ∷ example (bytes "A5s3R") 2 3
     ∷ example (bytes "XX") 2 1
-    -- "the first fault from the left", "then structure"
-    ∷ example (bytes "G1A2147483648R") 3 3
-    ∷ example (bytes "xA2147483648R") 2 1
     -- "`s` and a slot 0 to 15", "0 to 14 commands and a required `R`"
     ∷ example (bytes "s3R") 0 0
     ∷ example (bytes "s16R") 3 1
     ∷ example (bytes "s3A5") 2 5
     ∷ example (bytes "s0z0z0z0z0z0z0z0z0z0z0z0z0z0z0R") 0 0
     ∷ example (bytes "s0z0z0z0z0z0z0z0z0z0z0z0z0z0z0z0R") 2 31
-    -- 02, E6: "the leftmost of"; "a fifth `g` (it still opens)"; "for a missing `R`, body length plus 1", here of the longest store; a bad slot is told at the `s`
-    ∷ example (bytes "A1gA2") 2 3
-    ∷ example (bytes "gP1G2G3R") 2 6
-    ∷ example (bytes "A1gggggR") 2 3
-    ∷ example (bytes "gggggP1G1G1G1G1G1G1R") 2 5
-    ∷ example (bytes "gG1A1gP1S03R") 2 6
-    ∷ example (bytes "A1S03gP1G2G2R") 2 3
-    ∷ example (bytes "s12gA5") 2 4
-    ∷ example (bytes "s12G1x1") 2 6
-    ∷ example (bytes "sA5R") 3 1
-    ∷ example (byte "s" ∷ (replicate 10 (byte "0") ++ many 14 (byte "z" ∷ replicate 10 (byte "0")))) 2 166
-    ∷ example (bytes "A1L0R") 3 3
-    ∷ example (bytes "A1G1R") 2 3
-    ∷ example (bytes "G1gP1R") 2 1
-    ∷ example (bytes "A1S03R") 2 3
-    ∷ example (bytes "gggggGGGGR") 2 1
-    ∷ example (bytes "ggA1S02G1R") 2 1
-    ∷ example (bytes "A1gL0R") 3 4
     ∷ example (bytes "s0z0z0z0z0z0z0z0z0z0z0z0z0z0z0z0") 2 31
     -- "Immediate bodies"; "`R` alone", "`X` alone"; "an empty body acts as `Q`"
     ∷ example (bytes "T5") 2 1
@@ -106,6 +86,31 @@ examples =
     ∷ example (bytes "S00000000002A0R") 3 1
     ∷ example (bytes "A00000000005x") 3 1
     ∷ example (bytes "xA00000000005") 2 1
+    ∷ []
+
+-- which fault is told, and its place
+unfoldable pub leftmosts : List Example
+leftmosts =
+    -- "the first fault from the left", "then structure"
+    example (bytes "G1A2147483648R") 3 3
+    ∷ example (bytes "xA2147483648R") 2 1
+    -- 02, E6: "the leftmost of"; "for a missing `R`, body length plus 1", here of the longest store; a bad slot is told at the `s`
+    ∷ example (bytes "A1gA2") 2 3
+    ∷ example (bytes "gP1G2G3R") 2 6
+    ∷ example (bytes "A1gggggR") 2 3
+    ∷ example (bytes "gG1A1gP1S03R") 2 6
+    ∷ example (bytes "A1S03gP1G2G2R") 2 3
+    ∷ example (bytes "s12gA5") 2 4
+    ∷ example (bytes "s12G1x1") 2 6
+    ∷ example (bytes "sA5R") 3 1
+    ∷ example (byte "s" ∷ (replicate 10 (byte "0") ++ many 14 (byte "z" ∷ replicate 10 (byte "0")))) 2 166
+    ∷ example (bytes "A1L0R") 3 3
+    ∷ example (bytes "A1G1R") 2 3
+    ∷ example (bytes "G1gP1R") 2 1
+    ∷ example (bytes "A1S03R") 2 3
+    ∷ example (bytes "gggggGGGGR") 2 1
+    ∷ example (bytes "ggA1S02G1R") 2 1
+    ∷ example (bytes "A1gL0R") 3 4
     ∷ []
 
 -- ---- stored texts

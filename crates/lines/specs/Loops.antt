@@ -29,7 +29,7 @@ pub data Enclosed (t : List ℕ) : ℕ → List ℕ → Type 0 where
 -- the same as a function: the text read from its start up to the place `to`
 abbrev pub scanRead : Read → (ℕ → List ℕ → List ℕ) → List ℕ → List ℕ
 scanRead (At c n) go starts = go n (openAfter c n starts)
-scanRead (Bad f) go starts = starts
+scanRead (Bad k p) go starts = starts
 scanRead End go starts = starts
 
 unfoldable pub scanTo : ℕ → List ℕ → ℕ → ℕ → List ℕ → List ℕ
@@ -50,7 +50,7 @@ Skippable (At (LoopEnd m) n) = ⊥
 Skippable (At (Skip m) n) = Unit
 Skippable (At (Jump m) n) = Unit
 Skippable (At (Plain a) n) = Unit
-Skippable (Bad f) = ⊥
+Skippable (Bad k p) = ⊥
 Skippable End = ⊥
 
 -- what a checked text has at a place with so many loops open: no fault, a fifth loop never begins, a loop end has its loop, all closed at the end
@@ -60,5 +60,5 @@ Lawful t depth (At (LoopEnd m) n) = 0 < depth
 Lawful t depth (At (Skip m) n) = Skippable (readAt t n)
 Lawful t depth (At (Jump m) n) = Unit
 Lawful t depth (At (Plain a) n) = Unit
-Lawful t depth (Bad f) = ⊥
+Lawful t depth (Bad k p) = ⊥
 Lawful t depth End = depth ≡ 0

@@ -21,7 +21,7 @@ use Rattle.commands.specs.declared.Setting.the-variants.{TopSpeed}
 use Rattle.commands.specs.declared.Range.{Range}
 use Rattle.commands.specs.declared.Read.the-variants.{At, Bad}
 use Rattle.commands.specs.Table.{table, find, asksOf, commandOf, within}
-use Rattle.commands.specs.Reading.{badOperand, required, readBy, readAt}
+use Rattle.commands.specs.Reading.{outOfRange, badOperand, required, readBy, readAt}
 use Rattle.commands.specs.Writing.{inRange}
 use Rattle.commands.proofs.ReadingLaws.{read-append, read-end}
 use Rattle.lines.specs.declared.Taken.{Taken}
@@ -101,7 +101,7 @@ module _ {b t : List ℕ} (s : SpeedBody b t) where
   unfolding takenOf
   judged-code j e run = rw (first-there, e)
 
-  bad-code : (run : Bool) → required 86 (Range.From 1 16777216) (operandUpTo operandMost b 1) 1 ≡ Bad (badOperand 1) → takenCode (takenOf t run) ≡ 3
+  bad-code : (run : Bool) → required 86 (Range.From 1 16777216) (operandUpTo operandMost b 1) 1 ≡ Bad outOfRange 1 → takenCode (takenOf t run) ≡ 3
   unfolding lineJudged
   bad-code run e = judged-code (Refused (badOperand 1)) (rw (reading-law t 0, read-there, e)) run
 

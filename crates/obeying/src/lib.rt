@@ -4,9 +4,11 @@ mod speed;
 ghost use mathlib.Core.Path.{_≡_};
 ghost use Prim.Native.Nat.{_≤_};
 ghost use Rattle.lines.specs.Bodies.{bodyOf};
-ghost use Rattle.turns.specs.Turns.{withEndless, started};
+ghost use Rattle.turns.specs.declared.Core.{Core};
+ghost use Rattle.turns.specs.Turns.{started};
 ghost use Rattle.obeying.specs.Obeying.{stepSize, placeTold, refusedAt, refused, telling, writing, terminated, immediateObeyed};
 ghost use Rattle.obeying.specs.Obeying.{resumed, runObeyed, againObeyed, loadedFor, speedObeyed, speedOrBusy, lineOrBusy, bodyObeyed};
+ghost use Rattle.obeying.specs.Changes.{changedBy, codeBy, orderedAs};
 ghost use Rattle.obeying.specs.Deeds.{BodiesDo};
 use commands::Fault;
 use lines::Body;
@@ -41,17 +43,104 @@ pub struct Obeyed {
     pub write: Write,
 }
 
+// What is changed of a core.
+enum Change {
+    Stay,
+    // The run ends, and the held code stays.
+    Stop,
+    // A wait at `H` ends.
+    Resume,
+    // A run starts on a text of so many bytes.
+    Start(usize),
+    // A text of so many bytes is loaded and held.
+    Load(usize),
+    // The endless speed is set.
+    Speed(u32),
+}
+
+// What a body orders: the change of the core, what is answered, and what is to be written.
+struct Order {
+    change: Change,
+    // A refusal's own, or `HELD`.
+    code: u32,
+    tell: Tell,
+    write: Write,
+}
+
 // Running, and not immediate nor a resuming `R`.
 const BUSY: u8 = 15;
+
+// No code is so large: the held code is answered.
+const HELD: u32 = 256;
 
 // A body obeyed or refused.
 pub fn obey(c: Core, body: &[u8]) -> Obeyed
     ensures { λ o. ⌜ o ≡ bodyObeyed (now (body .entry)) c ⌝ }
 {
+    let o = order_of(c, body);
+    let change = o.change;
+    let tell = o.tell;
+    let write = o.write;
+    let d = changed(c, change);
+    Obeyed {
+        core: d,
+        code: code_of(o.code, d.code),
+        tell: tell,
+        write: write,
+    }
+}
+
+// A core with a change made, in this one place.
+fn changed(c: Core, change: Change) -> Core
+    ensures { λ r. ⌜ r ≡ changedBy change c ⌝ }
+{
+    let m = c.motor;
+    let mut d = c;
+    match change {
+        Change::Stay => {}
+        Change::Stop => {
+            d.motor = motor::stop(m);
+            d.running = false;
+        }
+        Change::Resume => {
+            d.motor = motor::resume(m);
+        }
+        Change::Start(n) => {
+            d.flow = flow::begin(n);
+            d.running = true;
+            d.loaded = false;
+            d.code = 0;
+        }
+        Change::Load(n) => {
+            d.flow = flow::begin(n);
+            d.running = false;
+            d.loaded = true;
+        }
+        Change::Speed(n) => {
+            d.endless = n;
+        }
+    }
+    d
+}
+
+// A refusal's own code, or the held one.
+fn code_of(code: u32, held: u8) -> u8
+    ensures { λ r. ⌜ r ≡ codeBy code held ⌝ }
+{
+    if code < HELD {
+        return code as u8;
+    }
+    held
+}
+
+// What a body orders.
+fn order_of(c: Core, body: &[u8]) -> Order
+    ensures { λ o. ⌜ orderedAs o c ≡ bodyObeyed (now (body .entry)) c ⌝ }
+{
     let kind = lines::body_of(body);
     match kind {
-        Body::Refused(f) => refuse_at(c, f),
-        Body::Empty => hold(c, Tell::Nothing),
+        Body::Refused(f) => refuse_at(f),
+        Body::Empty => hold(Change::Stay, Tell::Nothing),
         Body::Immediate(i) => obey_immediate(c, i),
         Body::Run => obey_run(c),
         Body::Again => obey_again(c),
@@ -60,25 +149,23 @@ pub fn obey(c: Core, body: &[u8]) -> Obeyed
 }
 
 // A frame refused without a place: its own code and no data.
-fn refuse(c: Core, code: u8) -> Obeyed
-    ensures { λ o. ⌜ o ≡ refused code c ⌝ }
+fn refuse(code: u8) -> Order
+    ensures { λ o. ⌜ ((c : Core) → orderedAs o c ≡ refused code c) ⌝ }
 {
-    Obeyed {
-        core: c,
+    refuse_at(Fault {
         code: code,
-        tell: Tell::Nothing,
-        write: Write::Nothing,
-    }
+        place: 0,
+    })
 }
 
 // A refused body: its own code, and the place of its fault.
-fn refuse_at(c: Core, f: Fault) -> Obeyed
+fn refuse_at(f: Fault) -> Order
     requires { ⌜ f .place ≤ 257 ⌝ }
-    ensures { λ o. ⌜ o ≡ refusedAt f c ⌝ }
+    ensures { λ o. ⌜ ((c : Core) → orderedAs o c ≡ refusedAt f c) ⌝ }
 {
-    Obeyed {
-        core: c,
-        code: f.code,
+    Order {
+        change: Change::Stay,
+        code: wide(f.code),
         tell: tell_place(f.place),
         write: Write::Nothing,
     }
@@ -96,57 +183,57 @@ fn tell_place(place: usize) -> Tell
 }
 
 // All others: the held code.
-fn hold(c: Core, tell: Tell) -> Obeyed
-    ensures { λ o. ⌜ o ≡ telling tell c ⌝ }
+fn hold(change: Change, tell: Tell) -> Order
+    ensures { λ o. ⌜ ((c : Core) → orderedAs o c ≡ telling tell (changedBy change c)) ⌝ }
 {
-    Obeyed {
-        core: c,
-        code: c.code,
+    Order {
+        change: change,
+        code: HELD,
         tell: tell,
         write: Write::Nothing,
     }
 }
 
 // The held code, and something to write.
-fn hold_writing(c: Core, write: Write) -> Obeyed
-    ensures { λ o. ⌜ o ≡ writing write c ⌝ }
+fn hold_writing(change: Change, write: Write) -> Order
+    ensures { λ o. ⌜ ((c : Core) → orderedAs o c ≡ writing write (changedBy change c)) ⌝ }
 {
-    Obeyed {
-        core: c,
-        code: c.code,
+    Order {
+        change: change,
+        code: HELD,
         tell: Tell::Nothing,
         write: write,
     }
 }
 
-// An immediate body, obeyed while running too.
-fn obey_immediate(c: Core, i: Immediate) -> Obeyed
-    ensures { λ o. ⌜ o ≡ immediateObeyed i c ⌝ }
+// What an immediate body orders, while running too.
+fn obey_immediate(c: Core, i: Immediate) -> Order
+    ensures { λ o. ⌜ orderedAs o c ≡ immediateObeyed i c ⌝ }
 {
     let m = c.motor;
     let s = c.settings;
     match i {
         Immediate::Terminate => hold(terminate(c), Tell::Nothing),
-        Immediate::Status => hold(c, Tell::Nothing),
-        Immediate::CurrentText => hold(c, Tell::Text),
-        Immediate::Position => hold(c, Tell::Number(m.position)),
-        Immediate::Speed => hold(c, Tell::Number(s.speed)),
-        Immediate::Sample => hold(c, Tell::Number(wide(m.sample))),
-        Immediate::EndlessSpeed => hold(c, Tell::Number(c.endless)),
-        Immediate::StepSize => hold(c, Tell::Number(step_size(s.exponent))),
-        Immediate::Correction => hold(c, Tell::Number(s.correction)),
-        Immediate::Clear => hold_writing(c, Write::Clear),
+        Immediate::Status => hold(Change::Stay, Tell::Nothing),
+        Immediate::CurrentText => hold(Change::Stay, Tell::Text),
+        Immediate::Position => hold(Change::Stay, Tell::Number(m.position)),
+        Immediate::Speed => hold(Change::Stay, Tell::Number(s.speed)),
+        Immediate::Sample => hold(Change::Stay, Tell::Number(wide(m.sample))),
+        Immediate::EndlessSpeed => hold(Change::Stay, Tell::Number(c.endless)),
+        Immediate::StepSize => hold(Change::Stay, Tell::Number(step_size(s.exponent))),
+        Immediate::Correction => hold(Change::Stay, Tell::Number(s.correction)),
+        Immediate::Clear => hold_writing(Change::Stay, Write::Clear),
     }
 }
 
 // `T`.
-fn terminate(c: Core) -> Core
-    ensures { λ r. ⌜ r ≡ terminated c ⌝ }
+fn terminate(c: Core) -> Change
+    ensures { λ r. ⌜ changedBy r c ≡ terminated c ⌝ }
 {
     if c.running {
-        return turns::end_run(c, c.code);
+        return Change::Stop;
     }
-    c
+    Change::Stay
 }
 
 // A byte as a number that can be told.
@@ -174,8 +261,8 @@ fn step_size(exponent: u32) -> u32
 }
 
 // `R` alone: a wait at `H` ends, or a loaded line not yet run runs.
-fn obey_run(c: Core) -> Obeyed
-    ensures { λ o. ⌜ o ≡ runObeyed c ⌝ }
+fn obey_run(c: Core) -> Order
+    ensures { λ o. ⌜ orderedAs o c ≡ runObeyed c ⌝ }
 {
     if c.running {
         return resume(c);
@@ -183,54 +270,52 @@ fn obey_run(c: Core) -> Obeyed
     if c.loaded {
         return hold(run_text(c), Tell::Nothing);
     }
-    hold(c, Tell::Nothing)
+    hold(Change::Stay, Tell::Nothing)
 }
 
 // `R` while running.
-fn resume(c: Core) -> Obeyed
-    ensures { λ o. ⌜ o ≡ resumed c ⌝ }
+fn resume(c: Core) -> Order
+    ensures { λ o. ⌜ orderedAs o c ≡ resumed c ⌝ }
 {
     let m = c.motor;
     if motor::waits_input(m) {
-        let mut d = c;
-        d.motor = motor::resume(m);
-        return hold(d, Tell::Nothing);
+        return hold(Change::Resume, Tell::Nothing);
     }
-    refuse(c, BUSY)
+    refuse(BUSY)
 }
 
 // `X` alone.
-fn obey_again(c: Core) -> Obeyed
-    ensures { λ o. ⌜ o ≡ againObeyed c ⌝ }
+fn obey_again(c: Core) -> Order
+    ensures { λ o. ⌜ orderedAs o c ≡ againObeyed c ⌝ }
 {
     if c.running {
-        return refuse(c, BUSY);
+        return refuse(BUSY);
     }
     hold(run_text(c), Tell::Nothing)
 }
 
 // The current text run from its beginning.
-fn run_text(c: Core) -> Core
-    ensures { λ r. ⌜ r ≡ started (c .flow .length) c ⌝ }
+fn run_text(c: Core) -> Change
+    ensures { λ r. ⌜ changedBy r c ≡ started (c .flow .length) c ⌝ }
 {
     let f = c.flow;
-    turns::start_run(c, f.length)
+    Change::Start(f.length)
 }
 
 // A line or a store, where the unit is idle; where it runs, none but the endless speed.
-fn obey_line(c: Core, body: &[u8]) -> Obeyed
+fn obey_line(c: Core, body: &[u8]) -> Order
     requires { ⌜ bodyOf (now body) ≡ Body.Line ⌝ }
-    ensures { λ o. ⌜ o ≡ lineOrBusy (now (body .entry)) c ⌝ }
+    ensures { λ o. ⌜ orderedAs o c ≡ lineOrBusy (now (body .entry)) c ⌝ }
 {
     if c.running {
         return obey_speed_or_busy(c, body);
     }
     let line = lines::line_of(body);
     match line {
-        Taken::Refused(f) => refuse_at(c, f),
-        Taken::Line { length, run } => hold_writing(load(c, length, run), Write::Text(length)),
+        Taken::Refused(f) => refuse_at(f),
+        Taken::Line { length, run } => hold_writing(load(length, run), Write::Text(length)),
         Taken::Store { slot, at, length } => hold_writing(
-            c,
+            Change::Stay,
             Write::Store {
                 slot: slot,
                 at: at,
@@ -241,51 +326,38 @@ fn obey_line(c: Core, body: &[u8]) -> Obeyed
 }
 
 // A line while running.
-fn obey_speed_or_busy(c: Core, body: &[u8]) -> Obeyed
-    ensures { λ o. ⌜ o ≡ speedOrBusy (now (body .entry)) c ⌝ }
+fn obey_speed_or_busy(c: Core, body: &[u8]) -> Order
+    ensures { λ o. ⌜ orderedAs o c ≡ speedOrBusy (now (body .entry)) c ⌝ }
 {
     let m = c.motor;
     if !motor::is_endless(m) {
-        return refuse(c, BUSY);
+        return refuse(BUSY);
     }
     if !speed::is_speed_line(body) {
-        return refuse(c, BUSY);
+        return refuse(BUSY);
     }
-    obey_speed(c, body)
+    obey_speed(body)
 }
 
 // The endless speed set, or the line refused.
-fn obey_speed(c: Core, body: &[u8]) -> Obeyed
-    ensures { λ o. ⌜ o ≡ speedObeyed (now (body .entry)) c ⌝ }
+fn obey_speed(body: &[u8]) -> Order
+    ensures { λ o. ⌜ ((c : Core) → orderedAs o c ≡ speedObeyed (now (body .entry)) c) ⌝ }
 {
     let fault = lines::check_line(body);
     if fault.code == 0 {
-        return hold(set_speed(c, speed::speed_in(body)), Tell::Nothing);
+        return hold(Change::Speed(speed::speed_in(body)), Tell::Nothing);
     }
-    refuse_at(c, fault)
-}
-
-// Only the endless speed set.
-fn set_speed(c: Core, n: u32) -> Core
-    ensures { λ r. ⌜ r ≡ withEndless n c ⌝ }
-{
-    let mut d = c;
-    d.endless = n;
-    d
+    refuse_at(fault)
 }
 
 // A line's text at its beginning: run, or held.
-fn load(c: Core, length: usize, run: bool) -> Core
-    ensures { λ r. ⌜ r ≡ loadedFor run length c ⌝ }
+fn load(length: usize, run: bool) -> Change
+    ensures { λ r. ⌜ ((c : Core) → changedBy r c ≡ loadedFor run length c) ⌝ }
 {
     if run {
-        return turns::start_run(c, length);
+        return Change::Start(length);
     }
-    let mut d = c;
-    d.flow = flow::begin(length);
-    d.running = false;
-    d.loaded = true;
-    d
+    Change::Load(length)
 }
 
 // Does nothing: its promise is that a body does one of a few things.

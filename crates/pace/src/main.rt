@@ -7,6 +7,7 @@ use digits::Operand;
 use drive::Record;
 use libc::STDIN_FILENO;
 use libc::STDOUT_FILENO;
+use turns::Action;
 use turns::Direction;
 
 const IMAGE_BYTES: usize = 4160;
@@ -42,6 +43,7 @@ struct Paced {
     sum: u32,
 }
 
+// Tells the digest of what standard input asks for.
 fn main() {
     let mut input = io::buffer();
     let n = io::read_full(STDIN_FILENO, &mut input);
@@ -57,29 +59,32 @@ fn pace(input: &[u8]) -> u32 {
     if input.len() < at {
         return 0;
     }
+    run(task, &input[at..])
+}
+
+// The digest of a task on a stream. Before turns it is fed once, in one call.
+fn run(task: Task, stream: &[u8]) -> u32 {
     let mut image = [0u8; IMAGE_BYTES];
     image::clear(&mut image);
     let mut buffer = [0u8; BUFFER_BYTES];
     let mut body = [0u8; BODY_BYTES];
     let mut text = [0u8; TEXT_BYTES];
-    let s = drive::start(1, &image, &mut body, &mut text);
-    let u = begin(s.unit, task.asks);
-    let p = Paced { unit: u, sum: 0 };
+    let p = begin(task.asks, &image, &mut body, &mut text);
     if task.turns {
-        return turn_stream(
+        let fed = feed_stream(
             p,
-            &input[at..],
-            task.number,
-            task.times,
+            stream,
+            stream.len(),
             &mut body,
             &mut text,
             &mut image,
             &mut buffer,
         );
+        return turn_times(fed, task.number, task.times, &mut text, &image);
     }
     feed_times(
         p,
-        &input[at..],
+        stream,
         task.number as usize,
         task.times,
         &mut body,
@@ -123,13 +128,19 @@ fn no_task() -> Task {
     }
 }
 
-// The unit as it was started, or far away.
-fn begin(u: Record, asks: bool) -> Record {
-    let mut v = u;
+// Unit 1 as it is started, or far away, and an empty digest.
+fn begin(
+    asks: bool,
+    image: &[u8],
+    body: &mut [u8; BODY_BYTES],
+    text: &mut [u8; TEXT_BYTES],
+) -> Paced {
+    let s = drive::start(1, image, body, text);
+    let mut u = s.unit;
     if asks {
-        v.core.motor.position = FAR;
+        u.core.motor.position = FAR;
     }
-    v
+    Paced { unit: u, sum: 0 }
 }
 
 // The stream fed again and again.
@@ -166,12 +177,9 @@ fn feed_stream(
     while at < stream.len() {
         let end = end_of(stream, at, most);
         let f = drive::feed(u, body, text, &stream[at..end], image, buffer);
-        let v = f.unit;
-        u = v;
-        sum = add_answer(sum, f.answered, buffer);
-        let consumed = f.consumed;
-        sum = add(sum, consumed);
-        at = past(stream, at, consumed);
+        u = f.unit;
+        sum = add_fed(sum, f.answered, f.consumed, buffer);
+        at = past(stream, at, f.consumed);
     }
     Paced { unit: u, sum: sum }
 }
@@ -201,12 +209,13 @@ fn past(stream: &[u8], at: usize, consumed: usize) -> usize
     at + consumed
 }
 
-// The digest with an answer, where there is one: its length and its status.
-fn add_answer(sum: u32, answered: usize, buffer: &[u8]) -> u32 {
+// The digest with the length and the status of an answer, where there is one, and with what was consumed.
+fn add_fed(sum: u32, answered: usize, consumed: usize, buffer: &[u8]) -> u32 {
+    let more = add(sum, consumed);
     if answered == 0 {
-        return sum;
+        return more;
     }
-    let longer = add(sum, answered);
+    let longer = add(more, answered);
     if buffer.len() <= STATUS_AT {
         return longer;
     }
@@ -223,21 +232,6 @@ fn wide(x: u8) -> u32 {
     x as u32
 }
 
-// The stream fed once, then a turn again and again.
-fn turn_stream(
-    p: Paced,
-    stream: &[u8],
-    steps: u32,
-    times: u32,
-    body: &mut [u8; BODY_BYTES],
-    text: &mut [u8; TEXT_BYTES],
-    image: &mut [u8],
-    buffer: &mut [u8],
-) -> u32 {
-    let fed = feed_stream(p, stream, stream.len(), body, text, image, buffer);
-    turn_times(fed, steps, times, text, image)
-}
-
 // A turn again and again: at most so many of the steps that the action before allowed are reported. The digest, with the position.
 fn turn_times(p: Paced, steps: u32, times: u32, text: &mut [u8; TEXT_BYTES], image: &[u8]) -> u32 {
     let mut u = p.unit;
@@ -245,16 +239,12 @@ fn turn_times(p: Paced, steps: u32, times: u32, text: &mut [u8; TEXT_BYTES], ima
     let mut number: u32 = 0;
     for i in 0..times {
         let turned = drive::turn(u, text, (i % 16) as u8, 1, least(steps, number), image);
-        let v = turned.unit;
-        u = v;
+        u = turned.unit;
         let action = turned.action;
-        let direction = action.direction;
         number = action.number;
-        sum = std::num::wrapping_add_u32(sum, code_of(direction, number));
+        sum = std::num::wrapping_add_u32(sum, code_of(action));
     }
-    let core = u.core;
-    let motor = core.motor;
-    std::num::wrapping_add_u32(sum, motor.position)
+    std::num::wrapping_add_u32(sum, u.core.motor.position)
 }
 
 // The lesser of two.
@@ -263,10 +253,11 @@ fn least(a: u32, b: u32) -> u32 {
 }
 
 // An action as a number.
-fn code_of(direction: Direction, number: u32) -> u32 {
+fn code_of(action: Action) -> u32 {
+    let direction = action.direction;
     match direction {
-        Direction::Up => number,
-        Direction::Down => std::num::wrapping_add_u32(number, 1),
+        Direction::Up => action.number,
+        Direction::Down => std::num::wrapping_add_u32(action.number, 1),
         Direction::Still => 7,
     }
 }

@@ -6,8 +6,8 @@ use Prim.Native.Nat.{ℕ, zero, suc, _+_, _-_, _≤_, _<_}
 use native.Mathlib.Nat.{add-assoc, zero-add, sub-zero, zero-sub, suc-sub-suc}
 use native.Mathlib.Omega.{arith}
 use native.Mathlib.Numerals.{add-one}
-use lib.ListN.{length, set, take, drop, replicate, length-append, length-take, length-drop, length-replicate, take-append-drop}
-use lib.Seq.{set-split, drop-append-le, take-append-le, drop-drop, take-at, drop-at, length-take-le, take-length, take-append-seam}
+use lib.ListN.{length, getD, set, take, drop, replicate, length-append, length-take, length-drop, length-replicate, take-append-drop}
+use lib.Seq.{getD-take, getD-drop, set-split, drop-append-le, take-append-le, drop-drop, take-at, drop-at, length-take-le, take-length, take-append-seam}
 use lib.Dec.{eqb}
 use borrow.Author.Tests.{le-leb, lt-leb, leb-true, eq-eqb, eqb-true}
 use borrow.Rule.Slice.PartMut.{putMid}
@@ -101,6 +101,11 @@ module _ (xs : List ℕ) (a : ℕ) (ys : List ℕ) (h : a ≤ length xs) where
 pub put-front : (xs ys : List ℕ) → put xs 0 ys ≡ ys ++ drop (length ys) xs
 unfolding put
 put-front xs ys = rw zero-add
+
+-- a place of a part
+pub getD-part : (xs : List ℕ) (a n i : ℕ) → i < n → getD (part xs a n) i 0 ≡ getD xs (a + i) 0
+unfolding part
+getD-part xs a n i h = getD-take n (drop a xs) i 0 h ∙ getD-drop a xs i 0
 
 -- a single store
 pub set-put : (xs : List ℕ) (i v : ℕ) → i < length xs → set xs i v ≡ put xs i (v ∷ [])

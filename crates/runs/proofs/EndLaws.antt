@@ -19,7 +19,7 @@ use Rattle.obeying.specs.Obeying.{bodyObeyed}
 use Rattle.drive.specs.Calls.{receivedBy, bodyBy}
 use Rattle.obeying.specs.Deeds.{Obeys, refuses, tells, stores, clears, stops, resumes, speeds, again, loads}
 use Rattle.obeying.proofs.DeedLaws.{body-does}
-use Rattle.runs.specs.Reach.{Call, Feed, Turn, after, textOf}
+use Rattle.runs.specs.Reach.{Call, feed, turn, after, textOf}
 use Rattle.runs.specs.Causes.{Made, Cause, terminate, in-turn, causeCodes}
 use Rattle.runs.specs.Claims.{EndsExactly}
 use Rattle.runs.proofs.SoundLaws.{SoundUnit}
@@ -52,10 +52,10 @@ module _ (c : Core) (h : c .running ≡ true) where
 
 module _ (u : Drive) (h : SoundUnit u) (run : u .core .running ≡ true) where
   -- a run that a feed call ends has had a `T`
-  feed-only : (bytes image buffer : List ℕ) → after (Feed bytes image buffer) u .core .running ≡ false
-      → Cause u (Feed bytes image buffer) (after (Feed bytes image buffer) u .core .code)
+  feed-only : (bytes image buffer : List ℕ) → after (feed bytes image buffer) u .core .running ≡ false
+      → Cause u (feed bytes image buffer) (after (feed bytes image buffer) u .core .code)
   feed-only bytes image buffer =
-      feed-cases u bytes image buffer (λ (text : List ℕ) (c : Core). c .running ≡ false → Cause u (Feed bytes image buffer) (c .code))
+      feed-cases u bytes image buffer (λ (text : List ℕ) (c : Core). c .running ≡ false → Cause u (feed bytes image buffer) (c .code))
       (λ q. clash run q)
       (λ d q. let g = receivedBy u bytes in
       let f = framed (g .frame) (bodyBy u bytes) (u .core) (d .frame-ours) in
@@ -64,20 +64,20 @@ module _ (u : Drive) (h : SoundUnit u) (run : u .core .running ≡ true) where
       (terminate (record { buffer-right = d .buffer-right; image-right = d .image-right; frame-ours = d .frame-ours; is-T = k .0 })))
 
   -- a run that a turn ends has had another cause: it cannot have gone astray
-  turn-caused : (sample ms steps : ℕ) (image : List ℕ) → after (Turn sample ms steps image) u .core .running ≡ false
-      → Cause u (Turn sample ms steps image) (after (Turn sample ms steps image) u .core .code)
+  turn-caused : (sample ms steps : ℕ) (image : List ℕ) → after (turn sample ms steps image) u .core .running ≡ false
+      → Cause u (turn sample ms steps image) (after (turn sample ms steps image) u .core .code)
   turn-caused sample ms steps image =
       turn-cases u sample ms steps image
-      (λ (r : Turning). r .unit .core .running ≡ false → Cause u (Turn sample ms steps image) (r .unit .core .code))
+      (λ (r : Turning). r .unit .core .running ≡ false → Cause u (turn sample ms steps image) (r .unit .core .code))
       (λ a q. clash run q) (λ m q. go m (turn-only sample ms steps (u .text) image (u .core) run q))
     where
-      go : {k : ℕ} → Made u sample steps image → EndedBy sample steps (textOf u) image (u .core) k → Cause u (Turn sample ms steps image) k
+      go : {k : ℕ} → Made u sample steps image → EndedBy sample steps (textOf u) image (u .core) k → Cause u (turn sample ms steps image) k
       go m (cause e) = in-turn m e
       go m (straying s e) = absurd (not-astray u h sample s)
 
   call-only : (c : Call) → after c u .core .running ≡ false → Cause u c (after c u .core .code)
-  call-only (Feed bytes image buffer) = feed-only bytes image buffer
-  call-only (Turn sample ms steps image) = turn-caused sample ms steps image
+  call-only (feed bytes image buffer) = feed-only bytes image buffer
+  call-only (turn sample ms steps image) = turn-caused sample ms steps image
 
   -- each cause ends the run, with its code
   cause-ends : (c : Call) (k : ℕ) → Cause u c k → (after c u .core .running ≡ false) × (after c u .core .code ≡ k)

@@ -25,7 +25,7 @@ use Rattle.keeping.specs.Deeds.{SettingsLead, Does, goes, ends, Steps, keeps-te
 use Rattle.motor.specs.Deeds.{codeValues}
 use Rattle.obeying.specs.Deeds.{Obeys, refuses, tells, stores, clears, stops, resumes, speeds, again, loads}
 use Rattle.keeping.proofs.SettingLaws.{speed-fits, speed-most, endless-fits, correction-fits, exponent-fits}
-use Rattle.keeping.specs.Kept.{Kept}
+use Rattle.keeping.proofs.Kept.{Kept}
 
 -- of the settings those that are told: `?2`, `?7`, `?6`
 abbrev pub FitSettings : Settings → Type 0

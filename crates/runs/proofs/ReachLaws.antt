@@ -3,17 +3,17 @@ use mathlib.Core.List.{List}
 use Prim.Native.Nat.{ℕ}
 use Rattle.turns.specs.declared.Core.{Core}
 use Rattle.drive.specs.Unit.{Drive}
-use Rattle.keeping.specs.Kept.{HoldsOf, CallsKeep}
+use Rattle.keeping.proofs.Kept.{HoldsOf, CallsKeep}
 use Rattle.drive.proofs.StartLaws.{started-unit}
 use Rattle.keeping.proofs.CallLaws.{calls-keep}
-use Rattle.runs.specs.Reach.{Call, Feed, Turn, after, Reached, fresh, called}
+use Rattle.runs.specs.Reach.{Call, feed, turn, after, Reached, fresh, called}
 use Rattle.runs.proofs.SoundLaws.{SoundUnit, sound-kept}
 use Rattle.runs.proofs.FitLaws.{FitUnit, fit-kept}
 
 module _ {P : List ℕ → Core → Type 0} (k : CallsKeep P) where
   call-keeps : (u : Drive) (c : Call) → HoldsOf P u → HoldsOf P (after c u)
-  call-keeps u (Feed bytes image buffer) h = k .feeds u bytes image buffer h
-  call-keeps u (Turn sample ms steps image) h = k .turns u sample ms steps image h
+  call-keeps u (feed bytes image buffer) h = k .feeds u bytes image buffer h
+  call-keeps u (turn sample ms steps image) h = k .turns u sample ms steps image h
 
   pub reached-keeps : {u : Drive} → Reached u → HoldsOf P u
   reached-keeps (fresh number image body text l e) = rw (started-unit number image body text e) (k .starts number image body)

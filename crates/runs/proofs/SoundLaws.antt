@@ -28,7 +28,7 @@ use Rattle.drive.specs.Unit.{Drive}
 use Rattle.motor.specs.Deeds.{same}
 use Rattle.keeping.specs.Deeds.{FlowLeads, here, on, over, opens-loop, ends-loop, Does, goes, ends, Steps, keeps-text, enters-text}
 use Rattle.obeying.specs.Deeds.{Obeys, refuses, tells, stores, clears, stops, resumes, speeds, again, loads}
-use Rattle.keeping.specs.Kept.{Kept}
+use Rattle.keeping.proofs.Kept.{Kept}
 
 -- what holds of a core over the current text t before each call
 pub record Sound (t : List ℕ) (c : Core) : Type 0 where

@@ -21,7 +21,7 @@ use Rattle.obeying.specs.Obeying.{loadedAs}
 use Rattle.obeying.specs.Deeds.{Obeys, refuses, tells, stores, clears, stops, resumes, speeds, again, loads}
 use Rattle.drive.specs.Calls.{Starting, begunOn, freshUnit, noUnit, startOf, receivedBy, bodyBy, Turning}
 use Rattle.drive.proofs.FeedLaws.{frame-does}
-use Rattle.runs.specs.Reach.{Call, Feed, Turn, after, textOf}
+use Rattle.runs.specs.Reach.{Call, feed, turn, after, textOf}
 use Rattle.runs.proofs.SoundLaws.{text-kept}
 use Rattle.runs.proofs.CallLaws.{feed-cases, turn-cases}
 use Rattle.runs.proofs.CommandLaws.{turned}
@@ -53,7 +53,7 @@ jumped-there i text image c =
 
 -- "`e` makes the slot's text the current text .. and begins it"
 pub enters : {i sample ms steps : ℕ} {image : List ℕ} (v : Drive) → v .core .running ≡ true
-    → TakesCommand v (Jump i) sample (Turn sample ms steps image) → Entered (slotText image i) (after (Turn sample ms steps image) v)
+    → TakesCommand v (Jump i) sample (turn sample ms steps image) → Entered (slotText image i) (after (turn sample ms steps image) v)
 unfolding commandTaken
 enters {i} {sample} {ms} {steps} {image} v h (takes n m r) =
     let x = turned v h sample ms steps image m (Jump i) n r in
@@ -88,9 +88,9 @@ idle-stays sample ms steps t image c h =
 
 first-after : (u : Drive) (c : Call) → u .core .running ≡ false → AtFirst (after c u .core)
 unfolding turnCore
-first-after u (Feed bytes image buffer) h =
+first-after u (feed bytes image buffer) h =
     feed-cases u bytes image buffer (λ (text : List ℕ) (c : Core). AtFirst c) (stopped-first (u .core) h) (λ d. obeys-first h (frame-does (receivedBy u bytes .frame) (bodyBy u bytes) (u .core)))
-first-after u (Turn sample ms steps image) h =
+first-after u (turn sample ms steps image) h =
     turn-cases u sample ms steps image (λ (r : Turning). AtFirst (r .unit .core)) (λ a. stopped-first (u .core) h)
     (λ m z. absurd (false≢true (sym (idle-stays sample ms steps (textOf u) image (u .core) h) ∙ z)))
 

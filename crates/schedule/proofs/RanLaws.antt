@@ -7,7 +7,7 @@ use native.Mathlib.Omega.{arith}
 use lib.ListN.{length, take, length-append}
 use Rattle.commands.specs.declared.Command.{Command}
 use Rattle.commands.specs.declared.Command.the-variants.{LoopBegin, LoopEnd, Skip, Jump, Plain}
-use Rattle.commands.specs.declared.Read.the-variants.{At}
+use Rattle.commands.specs.declared.Read.the-variants.{At, End}
 use Rattle.flow.specs.declared.Flow.{Flow}
 use Rattle.flow.proofs.FlowLaws.{FlowOk}
 use Rattle.motor.specs.Motion.{reported}
@@ -20,7 +20,7 @@ use Rattle.turns.specs.declared.Enter.{Enter}
 use Rattle.turns.specs.Turns.{withMotor, textAfter}
 use Rattle.turns.specs.Ends.{Reads}
 use Rattle.drive.specs.Unit.{Drive}
-use Rattle.runs.specs.Reach.{Call, Turn, after, Reached, textOf}
+use Rattle.runs.specs.Reach.{Call, turn, after, Reached, textOf}
 use Rattle.runs.specs.Causes.{Made}
 use Rattle.runs.proofs.ReachLaws.{reached-sound}
 use Rattle.runs.proofs.CommandLaws.{turned}
@@ -50,11 +50,11 @@ still-other {t} {whole} {xs} v c h k s =
 
 turn-still : {whole : Course} {xs : List Step} (v : Drive) (sample ms steps : ℕ) (image : List ℕ) (d : Command) (n : ℕ) → v .core .running ≡ true
     → Made v sample steps image → Reads (textOf v) (v .core) (At d n) → NoJump d → Still (textOf v) whole xs v
-    → Still (textOf v) whole (xs ++ (step d sample ∷ [])) (after (Turn sample ms steps image) v)
+    → Still (textOf v) whole (xs ++ (step d sample ∷ [])) (after (turn sample ms steps image) v)
 unfolding reported
 turn-still {whole} {xs} v sample ms steps image d n h m r j s =
     let t = textOf v in
-    let w = after (Turn sample ms steps image) v in
+    let w = after (turn sample ms steps image) v in
     let x = turned v h sample ms steps image m d n r in
     let q = next-stands t whole (v .core .flow .at) sample (r .stands) (s .took) in
     let g = command-goes image (withMotor (reported sample steps (v .core .motor)) (v .core)) d n (s .ok) (r .stands) j q in
@@ -154,15 +154,16 @@ steady-ran r b y (other c s h k) = steady-ran r b y s
 pub counted : {u v : Drive} {xs : List Step} → Reached u → Begins u → Steady (courseIn (textOf u)) → Ran u xs v → RunsCounted (textOf u) xs v
 unfolding commandsIn
 counted {u} {v} {xs} r b y s =
-    let q = runs-as r b s (steady-ran r b y s) in
-    let p = in-order y (q .in-course) in
+    let t = still-ran r b s (steady-ran r b y s) in
+    let p = in-order y (stands-now (t .took)) in
+    let whole : Reads (textOf u) (v .core) End → commandsOf xs ≡ unrolled (courseIn (textOf u)) = λ e. one-way y (stands-last (t .took) (e .stands)) in
     let long : length (commandsOf xs) + length (p .0) ≡ cost (courseIn (textOf u)) =
     sym (length-append (commandsOf xs) (p .0)) ∙ ap length (sym (p .1)) ∙ costs (courseIn (textOf u)) in
     record {
       left = p .0;
       in-order = p .1;
-      whole = λ e. one-way y (q .whole e);
+      whole = whole;
       adds-up = omega (arith, commands-length xs);
       no-more = omega (arith, commands-length xs);
-      exactly = λ e. sym (commands-length xs) ∙ ap length (one-way y (q .whole e)) ∙ costs (courseIn (textOf u));
+      exactly = λ e. sym (commands-length xs) ∙ ap length (whole e) ∙ costs (courseIn (textOf u));
     }

@@ -30,7 +30,7 @@ use Rattle.turns.specs.declared.Stepped.{Stepped}
 use Rattle.turns.specs.Turns.{withFlow, withMotor, acted, skipTaken, stays, commandTaken, skipped as skippedTo}
 use Rattle.turns.specs.Ends.{Reads}
 use Rattle.drive.specs.Unit.{Drive}
-use Rattle.runs.specs.Reach.{Turn, after, textOf}
+use Rattle.runs.specs.Reach.{turn, after, textOf}
 use Rattle.runs.specs.Causes.{Made}
 use Rattle.runs.proofs.CommandLaws.{turned}
 use Rattle.schedule.specs.Claims.{NoJump, GoesOn}
@@ -49,7 +49,7 @@ acted-flow (Delay n) c = refl
 acted-flow (WaitInput n) c = refl
 
 pub plain-goes-on : (u : Drive) (a : Act) (next sample ms steps : ℕ) (image : List ℕ) → u .core .running ≡ true → Made u sample steps image
-    → Reads (textOf u) (u .core) (At (Plain a) next) → GoesOn u next (after (Turn sample ms steps image) u)
+    → Reads (textOf u) (u .core) (At (Plain a) next) → GoesOn u next (after (turn sample ms steps image) u)
 unfolding commandTaken
 plain-goes-on u a next sample ms steps image h m r =
     let e = acted-flow a (withFlow (gone next (u .core .flow)) (withMotor (reported sample steps (u .core .motor)) (u .core))) in
@@ -77,7 +77,7 @@ skip-goes {t} {whole} {xs} c i n h e s =
   where
     go : levelThere i (c .motor .sample) ≡ true → (r : Read) → readAt t n ≡ r → Skippable (readAt t n) → Goes t whole xs (stays (skippedTo r c))
     go v (At d l) q k = record { ok = skipped-ok h e q; took = s .skips v d l q (rw q at k); stays = refl }
-    go v (Bad f) q k = absurd (rw q at k)
+    go v (Bad x p) q k = absurd (rw q at k)
     go v End q k = absurd (rw q at k)
 
 pub command-goes : {t : List ℕ} {whole : Course} {xs : List Step} (image : List ℕ) (c : Core) (d : Command) (n : ℕ) → FlowOk t (c .flow)

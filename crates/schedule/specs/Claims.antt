@@ -13,7 +13,7 @@ use Rattle.image.specs.Image.{slotText}
 use Rattle.turns.specs.Ends.{Reads}
 use Rattle.drive.specs.Unit.{Drive}
 use Rattle.drive.specs.Calls.{startOf}
-use Rattle.runs.specs.Reach.{Call, Turn, after, Reached, textOf}
+use Rattle.runs.specs.Reach.{Call, turn, after, Reached, textOf}
 use Rattle.runs.specs.Causes.{Made}
 use Rattle.courses.specs.Meaning.{Step, step, Runs, commandsOf, Steady, unrolled, courseIn, commandsIn}
 use Rattle.schedule.specs.Ran.{TakesCommand, Begins, Ran}
@@ -54,8 +54,8 @@ pub record RunsAs (t : List ℕ) (xs : List Step) (v : Drive) : Type 0 where
   -- `e` is taken in its course too
   pub leaves : {i s : ℕ} {k : Call} → v .core .running ≡ true → TakesCommand v (Jump i) s k → Runs (courseIn t) false (xs ++ (step (Jump i) s ∷ []))
   -- and "makes the slot's text the current text .. and begins it", where it does not stop the run
-  pub enters : {i sample ms steps : ℕ} {image : List ℕ} → v .core .running ≡ true → TakesCommand v (Jump i) sample (Turn sample ms steps image)
-      → Entered (slotText image i) (after (Turn sample ms steps image) v)
+  pub enters : {i sample ms steps : ℕ} {image : List ℕ} → v .core .running ≡ true → TakesCommand v (Jump i) sample (turn sample ms steps image)
+      → Entered (slotText image i) (after (turn sample ms steps image) v)
 
 -- the same in a text without `S`, `e` and `G0`
 pub record RunsCounted (t : List ℕ) (xs : List Step) (v : Drive) : Type 0 where
@@ -78,4 +78,4 @@ pub record ScheduleClaims : Type 0 where
   pub counted : {u v : Drive} {xs : List Step} → Reached u → Begins u → Steady (courseIn (textOf u)) → Ran u xs v → RunsCounted (textOf u) xs v
   -- a plain command keeps the flow, also where it stops the run: the one statement that knows each of them, so one command more is one case more of its proof
   pub plain-goes-on : (u : Drive) (a : Act) (next sample ms steps : ℕ) (image : List ℕ) → u .core .running ≡ true → Made u sample steps image
-      → Reads (textOf u) (u .core) (At (Plain a) next) → GoesOn u next (after (Turn sample ms steps image) u)
+      → Reads (textOf u) (u .core) (At (Plain a) next) → GoesOn u next (after (turn sample ms steps image) u)

@@ -9,13 +9,13 @@ use Rattle.commands.specs.declared.Read.the-variants.{At}
 use Rattle.turns.specs.Ends.{Reads}
 use Rattle.drive.specs.Unit.{Drive}
 use Rattle.courses.specs.Meaning.{Step, step}
-use Rattle.runs.specs.Reach.{Call, Turn, after, textOf}
+use Rattle.runs.specs.Reach.{Call, turn, after, textOf}
 use Rattle.runs.specs.Causes.{Made}
 
 -- the call is a turn of u that takes the command d, with this sample: it is not refused, nothing is waited for, and the command stands at the place
 pub data TakesCommand (u : Drive) (d : Command) : ℕ → Call → Type 0 where
   takes : {sample ms steps : ℕ} {image : List ℕ} (next : ℕ) → Made u sample steps image → Reads (textOf u) (u .core) (At d next)
-      → TakesCommand u d sample (Turn sample ms steps image)
+      → TakesCommand u d sample (turn sample ms steps image)
 
 -- a run of u begins: its first command is next, and no loop is open
 pub record Begins (u : Drive) : Type 0 where

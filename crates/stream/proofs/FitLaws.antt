@@ -36,11 +36,11 @@ use Rattle.keeping.specs.Deeds.{SettingsLead, Does, goes, ends, Steps, keeps-te
 use Rattle.obeying.specs.Deeds.{Tells, nothing-told, text-told, position-told, speed-told, sample-told, endless-told, step-size-told, correction-told}
 use Rattle.obeying.proofs.SizeLaws.{step-size-fits}
 use Rattle.obeying.specs.Deeds.{Obeys, refuses, tells, stores, clears, stops, resumes, speeds, again, loads}
-use Rattle.keeping.specs.Kept.{Kept}
+use Rattle.keeping.proofs.Kept.{Kept}
 use Rattle.keeping.proofs.CallLaws.{calls-keep}
 use Rattle.keeping.proofs.SettingLaws.{speed-fits, speed-most, endless-fits, correction-fits}
-use Rattle.stream.specs.Steps.{State, Outcome, Quiet, Unanswered, Answer, outcomeOf, bodyHeard, obeyedIn, answerIn, stepped, received, byteStep, walkOf}
-use Rattle.stream.specs.Courses.{Event, Byte, Turn, stretch, afterTurn}
+use Rattle.stream.specs.Steps.{State, Outcome, quiet, unanswered, answer, outcomeOf, bodyHeard, obeyedIn, answerIn, stepped, received, byteStep, walkOf}
+use Rattle.stream.specs.Courses.{Event, byte, turn, stretch, afterTurn}
 use Rattle.stream.specs.Fits.{FitsMotor, FitsSettings, FitsCore, Fits}
 use Rattle.stream.proofs.WalkLaws.{walk-is}
 
@@ -173,9 +173,9 @@ answer-fits g o text h f = packet-fits g _ _ (data-fits (o .tell) (o .core .flow
 
 -- an answer is some bytes, and as many as the shortest buffer has at most
 abbrev pub FitsOutcome : Outcome → Type 0
-FitsOutcome Quiet = Unit
-FitsOutcome Unanswered = Unit
-FitsOutcome (Answer answer) = (1 ≤ length answer) × (length answer ≤ packetBytes)
+FitsOutcome quiet = Unit
+FitsOutcome unanswered = Unit
+FitsOutcome (answer bytes) = (1 ≤ length bytes) × (length bytes ≤ packetBytes)
 
 module _ (s : State) (f : Fits (s .unit)) where
   stepped-fits : (r : Received) → Fits (stepped r s .state .unit)
@@ -205,5 +205,5 @@ module _ (s : State) (f : Fits (s .unit)) where
 pub course-fits : (s : State) (es : List Event) → Fits (s .unit) → Fits (stretch s es .end .unit)
 unfolding stretch
 course-fits s [] f = f
-course-fits s (Byte b ∷ es) f = course-fits (byteStep s b .state) es (step-fits s f b)
-course-fits s (Turn sample ms steps ∷ es) f = course-fits (afterTurn s sample ms steps) es (turn-fits (s .unit) sample ms steps (s .image) f)
+course-fits s (byte b ∷ es) f = course-fits (byteStep s b .state) es (step-fits s f b)
+course-fits s (turn sample ms steps ∷ es) f = course-fits (afterTurn s sample ms steps) es (turn-fits (s .unit) sample ms steps (s .image) f)

@@ -1,21 +1,18 @@
 -- What 02 says of OEM frames: a skipped one completes nothing; of a repeat only a query or an empty body is obeyed, and neither changes the
 -- unit; and what is obeyed is read off the body alone. Assumes nothing.
 use Prim.Native.Nat.{ℕ, _+_}
-use mathlib.Core.Path.{_≡_, refl, sym, ap, _∙_}
+use mathlib.Core.Path.{_≡_, refl, sym, ap, subst, _∙_}
 use mathlib.Core.List.{List, [], _∷_, _++_}
-use mathlib.Core.Bool.{true, false, cond, not, and-eq-true-iff, true≢false}
+use mathlib.Core.Bool.{Bool, true, false, cond, not, _||_, and-eq-true-iff, true≢false}
 use lib.ListN.{length, take}
 use lib.Dec.{ltb, eqb}
 use borrow.Author.Tests.{le-ltb, eqb-true}
 use Rattle.parts.specs.Parts.{same, putIn}
-use Rattle.parts.proofs.Laws.{cases}
+use Rattle.parts.proofs.Laws.{cases, same-is}
 use Rattle.parts.specs.Letters.{cr, etx}
 use Rattle.answers.specs.Packet.{packetBytes, statusOf}
 use Rattle.commands.specs.Table as table
-use Rattle.lines.specs.declared.Immediate.{Immediate}
-use Rattle.lines.specs.declared.Immediate.the-variants.{Terminate, Status, CurrentText, Position, Speed, Sample, EndlessSpeed, StepSize, Correction, Clear}
-use Rattle.lines.specs.declared.Body.{Body}
-use Rattle.lines.specs.Bodies.{bodyOf}
+use Rattle.lines.specs.Bodies.{immediates, oneOfBodies, immediateIn, bodyOf}
 use Rattle.image.specs.Image.{rightLength, slots, slotsOlder}
 use Rattle.frames.specs.declared.Frame.{Frame}
 use Rattle.frames.specs.declared.Framing.{Framing}
@@ -28,11 +25,11 @@ use Rattle.frames.proofs.Alike.{as-if-not-come}
 use Rattle.turns.specs.declared.Core.{Core}
 use Rattle.obeying.specs.declared.Tell.{Tell}
 use Rattle.obeying.specs.declared.Obeyed.{Obeyed}
-use Rattle.obeying.specs.Obeying.{telling, immediateObeyed, kindObeyed, bodyObeyed, dataOf, textWritten, imageWritten}
+use Rattle.obeying.specs.Obeying.{telling, bodyObeyed, dataOf, textWritten, imageWritten}
 use Rattle.drive.specs.declared.FeedAnswer.{FeedAnswer}
 use Rattle.drive.specs.declared.Last.{Last}
 use Rattle.drive.specs.Unit.{Drive}
-use Rattle.drive.specs.Repeats.{sequenceNumber, repeats, isRepeat, asks, kindAsks, isQuery, chosen, isRefusal, numberedBy, lastAfter}
+use Rattle.drive.specs.Repeats.{sequenceNumber, repeats, isRepeat, queries, isQuery, chosen, isRefusal, numberedBy, lastAfter}
 use Rattle.drive.specs.Calls.{Starting, freshUnit, noUnit, startOf, mostSample, Turning, turnOf, receivedBy, frameObeyed, bodyBy, obeyedBy, textThen, answerTo, answerFor, Feeding, feedTaken, feedOf}
 use Rattle.drive.proofs.FeedLaws.{put-nothing}
 use Rattle.stream.specs.Oem.{movedTo, Heeded, SkippedBy, PassesOver, RepeatedBy, SameAnswer, SameDeed}
@@ -107,29 +104,28 @@ record Tellings (c : Core) (o : Obeyed) : Type 0 where
   told : Tell
   tells : o ≡ telling told c
 
-immediate-tells : (i : Immediate) (c : Core) → asks i ≡ true → Tellings c (immediateObeyed i c)
-immediate-tells Terminate c e = absurd (true≢false (sym e))
-immediate-tells Status c e = record { told = Tell.Nothing; tells = refl }
-immediate-tells CurrentText c e = record { told = Tell.Text; tells = refl }
-immediate-tells Position c e = record { told = Tell.Number _; tells = refl }
-immediate-tells Speed c e = record { told = Tell.Number _; tells = refl }
-immediate-tells Sample c e = record { told = Tell.Number _; tells = refl }
-immediate-tells EndlessSpeed c e = record { told = Tell.Number _; tells = refl }
-immediate-tells StepSize c e = record { told = Tell.Number _; tells = refl }
-immediate-tells Correction c e = record { told = Tell.Number _; tells = refl }
-immediate-tells Clear c e = absurd (true≢false (sym e))
+says : {c : Core} {o : Obeyed} (t : Tell) → o ≡ telling t c → Tellings c o
+says t e = record { told = t; tells = e }
 
-kind-tells : (k : Body) (b : List ℕ) (c : Core) → kindAsks k ≡ true → Tellings c (kindObeyed k b c)
-kind-tells (Body.Refused f) b c e = absurd (true≢false (sym e))
-kind-tells Body.Empty b c e = absurd (true≢false (sym e))
-kind-tells (Body.Immediate i) b c e = immediate-tells i c e
-kind-tells Body.Run b c e = absurd (true≢false (sym e))
-kind-tells Body.Again b c e = absurd (true≢false (sym e))
-kind-tells Body.Line b c e = absurd (true≢false (sym e))
+-- what holds of each body of a list holds of every one of them
+abbrev Every : (List ℕ → Type 0) → List (List ℕ) → Type 0
+Every P [] = Unit {0}
+Every P (x ∷ xs) = P x × Every P xs
+
+every-one : (P : List ℕ → Type 0) (xs : List (List ℕ)) (b : List ℕ) → Every P xs → oneOfBodies xs b ≡ true → P b
+every-one P [] b h e = absurd (true≢false (sym e))
+every-one P (x ∷ xs) b h e = go (same b x) refl e (every-one P xs b (h .1))
+  where
+    go : (t : Bool) → same b x ≡ t → (t || oneOfBodies xs b) ≡ true → (oneOfBodies xs b ≡ true → P b) → P b
+    go true s f rest = subst P (sym (same-is b x s)) (h .0)
+    go false s f rest = rest f
 
 query-tells : (b : List ℕ) (c : Core) → isQuery b ≡ true → Tellings c (bodyObeyed b c)
-unfolding isQuery bodyObeyed
-query-tells b c e = kind-tells (bodyOf b) b c e
+unfolding isQuery bodyObeyed bodyOf immediateIn immediates table.oneOf same
+query-tells b c e =
+    every-one (λ (x : List ℕ). Tellings c (bodyObeyed x c)) queries b
+    (says Tell.Nothing refl, (says Tell.Text refl, (says (Tell.Number _) refl, (says (Tell.Number _) refl, (says (Tell.Number _) refl, (says (Tell.Number _) refl, (says (Tell.Number _) refl, (says (Tell.Number _) refl, tt))))))))
+    e
 
 -- "An empty body acts as `Q`"
 empty-tells : (c : Core) → Tellings c (bodyObeyed [] c)

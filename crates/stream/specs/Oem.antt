@@ -3,7 +3,7 @@
 use Prim.Native.Nat.{ℕ, _+_, _≤_}
 use mathlib.Core.Path.{_≡_}
 use mathlib.Core.List.{List, [], _∷_, _++_}
-use mathlib.Core.Bool.{Bool, true, false, cond}
+use mathlib.Core.Bool.{true, false, cond}
 use lib.ListN.{length}
 use Rattle.parts.specs.Parts.{putIn}
 use Rattle.parts.specs.Letters.{cr, etx}
@@ -22,7 +22,7 @@ use Rattle.drive.specs.declared.FeedAnswer.{FeedAnswer}
 use Rattle.drive.specs.declared.Last.{Last}
 use Rattle.drive.specs.Unit.{Drive, drive}
 use Rattle.drive.specs.Repeats.{sequenceNumber, isRepeat, isQuery, isRefusal}
-use Rattle.drive.specs.Calls.{startOf, receivedBy, frameObeyed, obeyedBy, Feeding, feedOf, turnOf}
+use Rattle.drive.specs.Calls.{startOf, receivedBy, frameObeyed, obeyedBy, feedOf, turnOf}
 
 -- the unit with another receiver
 abbrev pub movedTo : Receiver → Drive → Drive

@@ -13,5 +13,5 @@ use Rattle.turns.specs.Turns.{astray, skipped}
 
 pub not-read : (r : Read) (c : Core) → OneOf (1 ∷ 2 ∷ []) (tagOf read.the-type r) → astray c ≡ skipped r c
 not-read (At d next) c h = absurd (not-tag 1 2 0 (λ e. omega arith) (λ e. omega arith) h)
-not-read (Bad f) c h = refl
+not-read (Bad k p) c h = refl
 not-read End c h = refl

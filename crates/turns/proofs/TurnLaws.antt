@@ -113,7 +113,7 @@ module _ (sample ms steps : ℕ) (t image : List ℕ) (c : Core) where
     where
       go : levelThere digits sample ≡ true → (x : Read) → readAt t next ≡ x → Caused (skipped x after)
       go l (At d past) e z = clash h z
-      go l (Bad f) e z = straying (skips-bad digits next f r l e) refl
+      go l (Bad k p) e z = straying (skips-bad digits next k p r l e) refl
       go l End e z = straying (skips-end digits next r l e) refl
 
   jump-ends : (slot next : ℕ) → Reads t c (At (Jump slot) next) → c .running ≡ true → Caused (jumped slot image after .core)
@@ -132,7 +132,7 @@ module _ (sample ms steps : ℕ) (t image : List ℕ) (c : Core) where
   read-ends : (r : Read) → Reads t c r → c .running ≡ true → Caused (readTaken r t image after .core)
   unfolding readTaken astray ended
   read-ends (At d next) r h = command-ends d next r h
-  read-ends (Bad f) r h = λ z. straying (bad-read f r) refl
+  read-ends (Bad k p) r h = λ z. straying (bad-read k p r) refl
   read-ends End r h = λ z. cause (text-ends r)
 
   served-ends : (k : ℕ) (w : Wait) → c .motor .wait ≡ w

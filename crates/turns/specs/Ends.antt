@@ -7,7 +7,6 @@ use mathlib.Core.Bool.{Bool, true, false}
 use Rattle.commands.specs.declared.Command.the-variants.{LoopBegin, LoopEnd, Skip, Jump, Plain}
 use Rattle.commands.specs.declared.Act.{Act}
 use Rattle.commands.specs.declared.Act.the-variants.{MoveTo, MoveUp, MoveDown}
-use Rattle.commands.specs.declared.Fault.{Fault}
 use Rattle.commands.specs.declared.Read.{Read}
 use Rattle.commands.specs.declared.Read.the-variants.{At, Bad, End}
 use Rattle.commands.specs.Table.{top}
@@ -43,11 +42,11 @@ positionThen sample steps c = reported sample steps (c .motor) .position
 
 -- what no checked text comes to: a bad read, a fifth loop, an end of no loop, a skip past the text
 pub data Strays (sample : ℕ) (t : List ℕ) (c : Core) : Type 0 where
-  bad-read : (f : Fault) → Reads t c (Bad f) → Strays sample t c
+  bad-read : (k p : ℕ) → Reads t c (Bad k p) → Strays sample t c
   too-deep : (next : ℕ) → Reads t c (At LoopBegin next) → loopBegun next (c .flow) .astray ≡ true → Strays sample t c
   none-open : (n next : ℕ) → Reads t c (At (LoopEnd n) next) → loopEnded n next (c .flow) .astray ≡ true → Strays sample t c
-  skips-bad : (digits next : ℕ) (f : Fault) → Reads t c (At (Skip digits) next) → levelThere digits sample ≡ true
-      → readAt t next ≡ Bad f → Strays sample t c
+  skips-bad : (digits next k p : ℕ) → Reads t c (At (Skip digits) next) → levelThere digits sample ≡ true
+      → readAt t next ≡ Bad k p → Strays sample t c
   skips-end : (digits next : ℕ) → Reads t c (At (Skip digits) next) → levelThere digits sample ≡ true
       → readAt t next ≡ End → Strays sample t c
 

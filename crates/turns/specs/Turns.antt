@@ -102,7 +102,7 @@ flowed f c = cond (f .astray) (astray c) (withFlow (f .flow) c)
 -- the command that is skipped
 abbrev pub skipped : Read → Core → Core
 skipped (At d next) c = withFlow (gone next (c .flow)) c
-skipped (Bad f) c = astray c
+skipped (Bad code place) c = astray c
 skipped End c = astray c
 
 -- the core, and whether a slot's text becomes the current one
@@ -136,7 +136,7 @@ commandTaken (Plain a) next t image c = stays (acted a (withFlow (gone next (c .
 -- "The first turn with no wait and no command left ends the run."
 unfoldable pub readTaken : Read → List ℕ → List ℕ → Core → Stepped
 readTaken (At d next) t image c = commandTaken d next t image c
-readTaken (Bad f) t image c = stays (astray c)
+readTaken (Bad code place) t image c = stays (astray c)
 readTaken End t image c = stays (ended (c .code) c)
 
 -- ---- a turn

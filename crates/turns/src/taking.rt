@@ -19,7 +19,7 @@ pub(crate) fn take_next(c: Core, text: &[u8], image: &[u8]) -> Stepped
     let r = commands::read_command(text, f.at);
     match r {
         Read::At(d, next) => take_command(c, d, next, text, image),
-        Read::Bad(_) => stay(go_astray(c)),
+        Read::Bad(_, _) => stay(go_astray(c)),
         Read::End => stay(crate::end_run(c, c.code)),
     }
 }

@@ -11,10 +11,28 @@ use crate::unit::Unit;
 const STATUS_AT: usize = 2;
 
 /// Frames of 5 to 10 bytes: immediate ones, lines without `R`, groups, and frames for other units.
-const SHORT: &[u8] = b"/1?0\r/2A1000R\r/1V305175\r/5gP5G3R\r/1M100\r/AL1000\r/3?2\r/1?2\r/1z12345\r/4D77R\r/_m25\r/1P5D5\r";
+const SHORT: &[u8] =
+    b"/1?0\r/2A1000R\r/1V305175\r/5gP5G3R\r/1M100\r/AL1000\r/3?2\r/1?2\r/1z12345\r/4D77R\r/_m25\r/1P5D5\r";
 /// One frame with a line of 200 bytes, which is checked and loaded.
-const LONG: &[u8] = b"/1gA1000P200D300M50S01z0G10gA1000P200D300M50S01z0G10gA1000P200D300M50S01z0G10gA1000P200D300M50S01z0G10\
+const LONG: &[u8] =
+    b"/1gA1000P200D300M50S01z0G10gA1000P200D300M50S01z0G10gA1000P200D300M50S01z0G10gA1000P200D300M50S01z0G10\
     gA1000P200D300M50S01z0G10gA1000P200D300M50S01z0G10gA1000P200D300M50S01z0G10gA1000P200D300M50S01z0G10\r";
+
+/// The frames of `SHORT` as OEM frames, and that of `LONG`.
+const SHORT_OEM: &[u8] = b"\x0211?0\x03\x0e\
+    \x0222A1000R\x03\x13\
+    \x0213V305175\x03P\
+    \x0254gP5G3R\x03$\
+    \x0215M100\x03y\
+    \x02A6L1000\x03;\
+    \x0237?2\x03\x08\
+    \x0211?2\x03\x0c\
+    \x0212z12345\x03I\
+    \x0243D77R\x03\x10\
+    \x02_4m25\x03\x00\
+    \x0215P5D5\x03\x11";
+const LONG_OEM: &[u8] = b"\x0211gA1000P200D300M50S01z0G10gA1000P200D300M50S01z0G10gA1000P200D300M50S01z0G10gA1000P200D300M50S01z0G10\
+    gA1000P200D300M50S01z0G10gA1000P200D300M50S01z0G10gA1000P200D300M50S01z0G10gA1000P200D300M50S01z0G10\x03\x01";
 
 /// A line that leads to a position of ten digits, and the turns that serve it.
 const FAR: &[u8] = b"/1z2147483647R\r";
@@ -42,19 +60,33 @@ pub struct Mode {
 }
 
 /// All that is timed.
-pub const MODES: [Mode; 12] = [
+pub const MODES: [Mode; 18] = [
     Mode { name: "feed, short frames, 1 byte a call", call: Call::Feed(1), stream: SHORT },
     Mode { name: "feed, short frames, 16 bytes a call", call: Call::Feed(16), stream: SHORT },
     Mode { name: "feed, short frames, 256 bytes a call", call: Call::Feed(256), stream: SHORT },
     Mode { name: "feed, 200-byte bodies, 1 byte a call", call: Call::Feed(1), stream: LONG },
     Mode { name: "feed, 200-byte bodies, 16 bytes a call", call: Call::Feed(16), stream: LONG },
     Mode { name: "feed, 200-byte bodies, 256 bytes a call", call: Call::Feed(256), stream: LONG },
+    Mode { name: "feed, short OEM frames, 1 byte a call", call: Call::Feed(1), stream: SHORT_OEM },
+    Mode { name: "feed, short OEM frames, 16 bytes a call", call: Call::Feed(16), stream: SHORT_OEM },
+    Mode { name: "feed, short OEM frames, 256 bytes a call", call: Call::Feed(256), stream: SHORT_OEM },
+    Mode { name: "feed, 200-byte OEM bodies, 1 byte a call", call: Call::Feed(1), stream: LONG_OEM },
+    Mode { name: "feed, 200-byte OEM bodies, 16 bytes a call", call: Call::Feed(16), stream: LONG_OEM },
+    Mode { name: "feed, 200-byte OEM bodies, 256 bytes a call", call: Call::Feed(256), stream: LONG_OEM },
     Mode { name: "feed, ten-digit answers, 1 byte a call", call: Call::Asks(1), stream: ASKS },
     Mode { name: "feed, ten-digit answers, a frame a call", call: Call::Asks(5), stream: ASKS },
     Mode { name: "turn, idle", call: Call::Turn(0), stream: b"" },
     Mode { name: "turn, in a move", call: Call::Turn(1), stream: b"/1P2147483647R\r" },
-    Mode { name: "turn, a command taken", call: Call::Turn(0), stream: b"/1gz0V1000L100m5J1h7o1500b9600G0R\r" },
-    Mode { name: "turn, a jump", call: Call::Turn(0), stream: b"/1s0e1A1000P200D300M50S01z0V1000L50R\r/1s1e0R\r/1e0R\r" },
+    Mode {
+        name: "turn, a command taken",
+        call: Call::Turn(0),
+        stream: b"/1gz0V1000L100m5J1h7o1500b9600G0R\r",
+    },
+    Mode {
+        name: "turn, a jump",
+        call: Call::Turn(0),
+        stream: b"/1s0e1A1000P200D300M50S01z0V1000L50R\r/1s1e0R\r/1e0R\r",
+    },
 ];
 
 impl Mode {
@@ -164,6 +196,7 @@ impl Paced {
 #[cfg(test)]
 mod tests {
     use super::*;
+    use crate::packet::checksum;
 
     #[test]
     fn what_is_asked() {
@@ -181,5 +214,27 @@ mod tests {
     fn the_long_body_has_200_bytes() {
         assert_eq!(LONG.len(), 2 + 200 + 1);
         assert_eq!(crate::line::check_idle(&LONG[2..202]), Ok(()));
+    }
+
+    /// The bodies of plain frames, and of OEM frames whose checksums are right, each with its address.
+    #[test]
+    fn the_oem_frames_are_the_plain_ones() {
+        let plain = |stream: &[u8]| {
+            stream
+                .split_inclusive(|&byte| byte == b'\r')
+                .map(|frame| frame[1..frame.len() - 1].to_vec())
+                .collect::<Vec<_>>()
+        };
+        let oem = |stream: &[u8]| {
+            let (mut rest, mut found) = (stream, Vec::new());
+            while let Some(end) = rest.iter().position(|&byte| byte == 3) {
+                assert_eq!(rest[end + 1], checksum(&rest[..=end]));
+                found.push([&rest[1..2], &rest[3..end]].concat());
+                rest = &rest[end + 2..];
+            }
+            found
+        };
+        assert_eq!(oem(SHORT_OEM), plain(SHORT));
+        assert_eq!(oem(LONG_OEM), plain(LONG));
     }
 }

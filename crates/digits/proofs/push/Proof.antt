@@ -1,4 +1,4 @@
--- `digits::push` meets its contract by arithmetic: a capped number with one digit more fits 64 bits. (With no file the check finds this too;
+-- `digits::push` meets its contract by arithmetic: a number that 32 bits hold, with one digit more, fits 64 bits. (With no file the check finds this too;
 -- written out, an edit of the cap is refused at the fact itself.) Assumes nothing.
 use native.Mathlib.Omega.{arith}
 use Rattle.digits.proofs.push.Statement.{statement}

@@ -7,11 +7,9 @@ use Rattle.firmware.specs.Port.{rampNumber}
 use Rattle.firmware.proofs.dt_ramp_check.Statement.{statement}
 use Rattle.firmware.proofs.dt_ramp_check.Tie as tie
 
-pub dt-ramp-check-spec : {M : Type 1} → statement M
+returns : tie.Need-returns
 unfolding rampNumber
-dt-ramp-check-spec =
-    tie.close
-    (tie.spec
-    (λ c κs. search needs)
-    (λ c κs. search needs)
-    (λ c. c .code .ensures ∙ ap (λ (f : Figures). verdictNumber (f .verdict)) (c .before .figures-of .ensures)))
+returns c = c .code .ensures ∙ ap (λ (f : Figures). verdictNumber (f .verdict)) (c .before .figures-of .ensures)
+
+pub dt-ramp-check-spec : {M : Type 1} → statement M
+dt-ramp-check-spec = tie.close (tie.spec (λ c κs. search needs) (λ c κs. search needs) returns)

@@ -24,8 +24,9 @@ abbrev μ-loop : tie.MeasureT-loop
 
 returns : tie.Need-returns Inv-loop μ-loop
 returns c u =
-    let k = c .before .before .before .before .before .before .loop in
-    let inside = c .before .before .before .before .before .before .before .before .pre .1 in (
+    let round = c .before .before .before .before .before .before in
+    let k = round .loop in
+    let inside = round .before .before .pre .1 in (
       omega (arith, k .inv .0),
       omega arith,
       turned _ _ u _ (omega arith) (k .inv .2 u)
@@ -34,8 +35,9 @@ returns c u =
 
 loop-again : tie.Need-loop-again Inv-loop μ-loop
 loop-again c =
-    let k = c .before .before .before .before .before .loop in
-    let inside = c .before .before .before .before .before .before .before .pre .1 in
+    let round = c .before .before .before .before .before in
+    let k = round .loop in
+    let inside = round .before .before .pre .1 in
     let stay = sym (c .before .before .leaves .ensures) ∙ c .before .if1 .left in (
       omega (arith, k .inv .0),
       omega arith,
@@ -46,8 +48,9 @@ loop-again c =
 
 loop-again-2 : tie.Need-loop-again-2 Inv-loop μ-loop
 loop-again-2 c =
-    let k = c .before .before .before .before .before .loop in
-    let inside = c .before .before .before .before .before .before .before .pre .1 in
+    let round = c .before .before .before .before .before in
+    let k = round .loop in
+    let inside = round .before .before .pre .1 in
     let stay = sym (c .before .before .leaves .ensures) ∙ c .before .if1 .left in (
       omega (arith, k .inv .0),
       omega arith,

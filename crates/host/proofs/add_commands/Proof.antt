@@ -33,10 +33,12 @@ same-length c = omega (arith, added-length (c .before .before .before .before .b
 
 returns : tie.Need-returns Inv-loop μ-loop
 returns c =
-    let a = c .before .before .before .before .before .before .before .before .before .before .args in
-    let l = c .before .before .before .before .before .before .before .before .loop in
+    let written = c .before .before .before .before in
+    let round = written .before .before .before .before in
+    let a = round .before .before .args in
+    let l = round .loop in
     none-added (a .t3) (l .i) _ (omega arith) (l .inv .1) (a .count) (omega arith)
-    (rw (c .enum-told .given .1) at (c .before .before .before .before .write-command .ensures))
+    (rw (c .enum-told .given .1) at (written .write-command .ensures))
 
 add-i : tie.Need-add-i Inv-loop μ-loop
 add-i c = omega arith
@@ -46,9 +48,11 @@ loop-less c = omega arith
 
 loop-again : tie.Need-loop-again Inv-loop μ-loop
 loop-again c =
-    let a = c .before .before .before .before .before .before .before .before .before .before .before .args in
-    let l = c .before .before .before .before .before .before .before .before .before .loop in
-    let w = rw (c .before .next .given .1) at (c .before .before .before .before .before .write-command .ensures) in
+    let written = c .before .before .before .before .before in
+    let round = written .before .before .before .before in
+    let a = round .before .before .args in
+    let l = round .loop in
+    let w = rw (c .before .next .given .1) at (written .write-command .ensures) in
     (omega arith, one-added (a .t3) (l .i) _ (omega arith) (l .inv .1) w)
 
 same-length-2 : tie.Need-same-length-2 Inv-loop μ-loop

@@ -6,11 +6,8 @@ use borrow.Author.Needs.{needs}
 use Rattle.image.proofs.body_of.Statement.{statement}
 use Rattle.image.proofs.body_of.Tie as tie
 
-returns : tie.Need-returns
-unfolding slotBody
-returns c = rw (c .before .start-of .ensures) (cut (c .before .before .before .args .image .now) _ _)
-
 pub body-of-spec : {M : Type 1} → statement M
+unfolding slotBody
 body-of-spec =
     tie.close
     (tie.spec
@@ -19,4 +16,4 @@ body-of-spec =
     (λ c. search needs)
     (λ c. search needs)
     (λ c. search needs)
-    returns)
+    (λ c. rw (c .before .start-of .ensures) (cut (c .before .before .before .args .image .now) _ _)))

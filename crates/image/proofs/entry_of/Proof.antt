@@ -6,11 +6,8 @@ use borrow.Author.Needs.{needs}
 use Rattle.image.proofs.entry_of.Statement.{statement}
 use Rattle.image.proofs.entry_of.Tie as tie
 
-returns : tie.Need-returns
-unfolding entryOf
-returns c = rw (c .before .entry-place .ensures) (cut (c .before .before .before .args .image .now) _ _)
-
 pub entry-of-spec : {M : Type 1} → statement M
+unfolding entryOf
 entry-of-spec =
     tie.close
     (tie.spec
@@ -19,4 +16,4 @@ entry-of-spec =
     (λ c. search needs)
     (λ c. search needs)
     (λ c. search needs)
-    returns)
+    (λ c. rw (c .before .entry-place .ensures) (cut (c .before .before .before .args .image .now) _ _)))

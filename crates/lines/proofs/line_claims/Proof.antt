@@ -1,15 +1,7 @@
--- `lines::line_claims`: every claim is a law of `proofs/`, and the examples compute. Assumes nothing.
-use mathlib.Core.Path.{_≡_, refl, sym, _∙_}
+-- `lines::line_claims`: every claim is a law of `proofs/`. Assumes nothing.
+use mathlib.Core.Path.{sym, _∙_}
 use mathlib.Core.List.{[]}
-use mathlib.Core.Bool.{true}
-use Rattle.parts.specs.Parts.{same}
-use Rattle.digits.specs.Operand.{digitRun, valueAfter, operandOf, operandAt, operandUpTo}
-use Rattle.commands.specs.Table.{table, find, asksOf, commandOf, oneOf, powerIn, exponentOf, within}
-use Rattle.commands.specs.Reading.{readBy}
 use Rattle.commands.proofs.ReadingLaws.{read-step}
-use Rattle.lines.specs.Texts.{unplaced, readingIn, readingBy, faultPlaces, fifteenth, storedPlaces, leftmost, lineJudged, storedBy, textGoodBy}
-use Rattle.lines.specs.Bodies.{immediates, immediateIn, bodyOf, endsWithR, textEnd, takenOf, lineOf, lineFault, lineCode}
-use Rattle.lines.specs.Examples.{examples, each, operands, eachCode, eachOperand, many, olders, eachOlder}
 use Rattle.lines.proofs.PlaceLaws.{places-none, stored-none, none-nil, nil-none}
 use Rattle.lines.proofs.TextLaws.{reading-law}
 use Rattle.lines.proofs.LoopLaws.{lawful, at-most-four, enclosed-by}
@@ -20,20 +12,9 @@ use Rattle.lines.proofs.FaultLaws.{leftmost-is, place-there, place-none
 use Rattle.lines.proofs.BeforeLaws.{because}
 use Rattle.lines.proofs.FewLaws.{taken-few, checked-few, good-now, older-most}
 use Rattle.lines.proofs.SpellLaws.{taken-spelled, reads-spelled}
+use Rattle.lines.proofs.ExampleLaws.{edges, first-told, older-edges, ranges}
 use Rattle.lines.proofs.line_claims.Statement.{statement}
 use Rattle.lines.proofs.line_claims.Tie as tie
-
-edges : each examples ≡ true
-unfolding examples each many lineFault bodyOf same immediates immediateIn endsWithR textEnd takenOf lineOf readingIn readingBy unplaced faultPlaces fifteenth storedPlaces leftmost lineJudged storedBy readBy table find asksOf commandOf oneOf powerIn exponentOf within operandUpTo operandAt operandOf digitRun valueAfter
-edges = refl
-
-older-edges : eachOlder olders ≡ true
-unfolding olders eachOlder many textGoodBy storedBy readingIn readingBy unplaced faultPlaces fifteenth storedPlaces leftmost readBy table find asksOf commandOf oneOf powerIn exponentOf within operandUpTo operandAt operandOf digitRun valueAfter
-older-edges = refl
-
-ranges : eachOperand operands ≡ true
-unfolding operands eachCode eachOperand lineCode lineFault bodyOf same immediates immediateIn endsWithR textEnd takenOf lineOf readingIn readingBy unplaced faultPlaces fifteenth storedPlaces leftmost lineJudged storedBy readBy table find asksOf commandOf oneOf powerIn exponentOf within operandUpTo operandAt operandOf digitRun valueAfter
-ranges = refl
 
 returns : tie.Need-returns
 returns c = record {
@@ -66,6 +47,7 @@ returns c = record {
   enclosed-by = enclosed-by;
   next-place = λ t at c n e. read-step t at e;
   edges = edges;
+  first-told = first-told;
   older-edges = older-edges;
   ranges = ranges;
 }

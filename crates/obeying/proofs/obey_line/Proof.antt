@@ -8,35 +8,23 @@ use Rattle.obeying.proofs.obey_line.Tie as tie
 
 refuse-at-requires : tie.Need-refuse-at-requires
 refuse-at-requires c κs =
-    line-place _ (c .before .before .before .before .before .before .pre) (sym (c .before .before .before .line-of .ensures) ∙ c .before .line .given .1)
+    let read = c .before .before .before in
+    line-place _ (read .before .before .before .pre) (sym (read .line-of .ensures) ∙ c .before .line .given .1)
 
 returns-2 : tie.Need-returns-2
 returns-2 c =
-    simp (
-      c .refuse-at .ensures,
-      c .before .before .line .given .1,
-      ← c .before .before .before .before .line-of .ensures,
-      c .before .before .before .before .before .if1 .left,
-    )
+    let read = c .before .before .before .before in
+    simp (c .refuse-at .ensures, c .before .before .line .given .1, ← read .line-of .ensures, read .before .if1 .left)
 
 returns-3 : tie.Need-returns-3
 returns-3 c =
-    simp (
-      c .hold-writing .ensures,
-      c .before .load .ensures,
-      c .before .before .before .line2 .given .1,
-      ← c .before .before .before .before .before .line-of .ensures,
-      c .before .before .before .before .before .before .if1 .left,
-    )
+    let read = c .before .before .before .before .before in
+    simp (c .hold-writing .ensures, c .before .load .ensures, c .before .before .before .line2 .given .1, ← read .line-of .ensures, read .before .if1 .left)
 
 returns-4 : tie.Need-returns-4
 returns-4 c =
-    simp (
-      c .hold-writing2 .ensures,
-      c .before .before .line3 .given .1,
-      ← c .before .before .before .before .line-of .ensures,
-      c .before .before .before .before .before .if1 .left,
-    )
+    let read = c .before .before .before .before in
+    simp (c .hold-writing2 .ensures, c .before .before .line3 .given .1, ← read .line-of .ensures, read .before .if1 .left)
 
 pub obey-line-spec : {M : Type 1} → statement M
 obey-line-spec =

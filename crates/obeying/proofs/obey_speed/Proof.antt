@@ -7,23 +7,17 @@ use Rattle.obeying.proofs.obey_speed.Statement.{statement}
 use Rattle.obeying.proofs.obey_speed.Tie as tie
 
 returns : tie.Need-returns
-returns c =
-    simp (
-      c .hold .ensures,
-      c .before .set-speed .ensures,
-      c .before .before .speed-in .ensures,
-      ← c .before .before .before .before .before .check-line .ensures,
-      eq-eqb _ _ (c .before .before .before .if1 .taken),
-    )
+returns c core =
+    let fault = c .before .before .before .before .check-line in
+    rw (← fault .ensures, eq-eqb _ _ (c .before .before .if1 .taken), ← c .before .speed-in .ensures) (c .hold .ensures core)
 
 returns-2 : tie.Need-returns-2
-returns-2 c = simp (c .refuse-at .ensures, ← c .before .before .before .check-line .ensures, ne-eqb _ _ (c .before .if1 .left))
+returns-2 c core = simp (c .refuse-at .ensures, ← c .before .before .before .check-line .ensures, ne-eqb _ _ (c .before .if1 .left))
 
 pub obey-speed-spec : {M : Type 1} → statement M
 obey-speed-spec =
     tie.close
     (tie.spec
-    (λ c κs. search needs)
     (λ c κs. search needs)
     (λ c κs. search needs)
     (λ c κs. search needs)

@@ -27,13 +27,8 @@ feed-stream-spec =
     (λ c κs. search needs)
     (λ c κs. search needs)
     (λ c κs. search needs)
-    (λ c κs. search needs)
     (λ c. search needs)
-    (λ c.
-    let inv = c .before .before .before .before .before .before .before .before .before .before .before .before .before .before .before .before .before .loop .inv in
-    let image = c .before .before .before .before .before .before .before .before .image .given in
-    let buffer = c .before .before .before .before .before .before .buffer .given in
-    (search needs, (search (needs, inv, image), search (needs, inv, buffer))))
+    (λ c. search needs)
     (λ c. search needs)
     (λ c. search needs)
     (λ c. search needs))

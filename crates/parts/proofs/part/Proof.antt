@@ -20,6 +20,9 @@ past-end : (s : List ℕ) (at n : ℕ) → length s ≤ at → [] ≡ part s at 
 unfolding part
 past-end s at n h = rw (drop-of-length-le s {i = at} h) (sym (take-nil n))
 
+returns : tie.Need-returns
+returns c = c .first .ensures ∙ from-place _ _ _
+
 pub part-spec : {M : Type 1} → statement M
 part-spec =
     tie.close
@@ -31,5 +34,5 @@ part-spec =
     (λ c. search needs)
     (λ c. search needs)
     (λ c. search needs)
-    (λ c. c .first .ensures ∙ from-place _ _ _)
+    returns
     (λ c. past-end _ _ _ (c .before .if1 .left)))

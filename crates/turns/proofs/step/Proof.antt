@@ -4,6 +4,11 @@ use Rattle.turns.specs.Turns.{stepOf}
 use Rattle.turns.proofs.step.Statement.{statement}
 use Rattle.turns.proofs.step.Tie as tie
 
+-- the unit runs on with the report counted
+returns : tie.Need-returns
+unfolding stepOf
+returns c = simp (c .run-on .ensures, c .before .if1 .taken, c .before .before .set-motor .ensures, c .before .before .before .report .ensures)
+
 pub step-spec : {M : Type 1} → statement M
 unfolding stepOf
 step-spec =
@@ -12,7 +17,7 @@ step-spec =
     (λ c κs. search needs)
     (λ c κs. search needs)
     (λ c κs. search needs)
-    (λ c. simp (c .run-on .ensures, c .before .if1 .taken, c .before .before .set-motor .ensures, c .before .before .before .report .ensures))
+    returns
     (λ c κs. search needs)
     (λ c κs. search needs)
     (λ c κs. search needs)

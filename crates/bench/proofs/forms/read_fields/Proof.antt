@@ -20,11 +20,11 @@ past-nth-requires c κs = search needs
 loop-holds : tie.Need-loop-holds Inv-loop μ-loop
 loop-holds c = search needs
 
-past-field-requires : tie.Need-past-field-requires Inv-loop μ-loop
-past-field-requires c κs = search needs
+past-requires : tie.Need-past-requires Inv-loop μ-loop
+past-requires c κs = search needs
 
-past-field-requires-2 : tie.Need-past-field-requires-2 Inv-loop μ-loop
-past-field-requires-2 c κs = search needs
+past-requires-2 : tie.Need-past-requires-2 Inv-loop μ-loop
+past-requires-2 c κs = search needs
 
 field-at-requires : tie.Need-field-at-requires Inv-loop μ-loop
 field-at-requires c κs = search needs
@@ -59,8 +59,8 @@ read-fields-spec =
     blank-task-requires
     past-nth-requires
     loop-holds
-    past-field-requires
-    past-field-requires-2
+    past-requires
+    past-requires-2
     field-at-requires
     read-field-requires
     with-field-requires

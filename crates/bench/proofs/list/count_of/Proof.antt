@@ -22,8 +22,8 @@ is-command-requires c κs = search needs
 returns : tie.Need-returns Inv-loop μ-loop
 returns c = search needs
 
-past-command-requires : tie.Need-past-command-requires Inv-loop μ-loop
-past-command-requires c κs = search needs
+past-nth-requires : tie.Need-past-nth-requires Inv-loop μ-loop
+past-nth-requires c κs = search needs
 
 add-result : tie.Need-add-result Inv-loop μ-loop
 add-result c = search needs
@@ -52,7 +52,7 @@ count-of-spec =
     loop-holds
     is-command-requires
     returns
-    past-command-requires
+    past-nth-requires
     add-result
     returns-2
     add-n

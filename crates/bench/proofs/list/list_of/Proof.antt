@@ -34,8 +34,8 @@ mul-commands c = search needs
 array-set-from-commands : tie.Need-array-set-from-commands Inv-loop μ-loop
 array-set-from-commands c = search needs
 
-past-command-requires : tie.Need-past-command-requires Inv-loop μ-loop
-past-command-requires c κs = search needs
+past-nth-requires : tie.Need-past-nth-requires Inv-loop μ-loop
+past-nth-requires c κs = search needs
 
 add-i : tie.Need-add-i Inv-loop μ-loop
 add-i c = search needs
@@ -62,7 +62,7 @@ list-of-spec =
     returns
     mul-commands
     array-set-from-commands
-    past-command-requires
+    past-nth-requires
     add-i
     loop-less
     loop-again

@@ -14,6 +14,9 @@ Inv-loop n k₀ k = (1 ≤ k) × (k ≤ 10) × (k ≤ length (decimal n))
 abbrev μ-loop : tie.MeasureT-loop
 μ-loop n k₀ k = 10 - k
 
+loop-holds : tie.Need-loop-holds Inv-loop μ-loop
+loop-holds c = (omega arith, omega arith, length-some _)
+
 returns : tie.Need-returns Inv-loop μ-loop
 returns c =
     let n = c .before .before .before .before .args .n in
@@ -35,7 +38,7 @@ count-digits-spec =
     (tie.spec
     Inv-loop
     μ-loop
-    (λ c. (omega arith, omega arith, length-some _))
+    loop-holds
     (λ c κs. omega arith)
     returns
     (λ c. omega arith)

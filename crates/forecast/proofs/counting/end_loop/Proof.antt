@@ -16,6 +16,9 @@ mul-t9 c = omega (arith, all-within _ _ _ _ (c .before .before .if1 .left) (sym 
 add-t10 : tie.Need-add-t10
 add-t10 c = omega (arith, all-within _ _ _ _ (c .before .before .if1 .left) (sym (c .before .fits2 .ensures) ∙ c .if2 .taken) .2)
 
+returns-2 : tie.Need-returns-2
+returns-2 c = simp (c .if2 .taken, ← c .before .fits2 .ensures, ne-eqb _ _ (c .before .before .if1 .left))
+
 returns-3 : tie.Need-returns-3
 returns-3 c = simp (c .exceed .ensures, c .before .if2 .left, ← c .before .before .fits2 .ensures, ne-eqb _ _ (c .before .before .before .if1 .left))
 
@@ -29,6 +32,6 @@ end-loop-spec =
     add-t8
     mul-t9
     add-t10
-    (λ c. simp (c .if2 .taken, ← c .before .fits2 .ensures, ne-eqb _ _ (c .before .before .if1 .left)))
+    returns-2
     (λ c κs. search needs)
     returns-3)

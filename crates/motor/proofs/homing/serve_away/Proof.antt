@@ -5,16 +5,6 @@ use Rattle.motor.specs.Motion.{awayOn}
 use Rattle.motor.proofs.homing.serve_away.Statement.{statement}
 use Rattle.motor.proofs.homing.serve_away.Tie as tie
 
-returns-3 : tie.Need-returns-3
-unfolding awayOn
-returns-3 c =
-    simp (
-      c .wait-for .ensures,
-      lt-leb _ _ (c .before .if2 .left),
-      c .before .before .if1 .left,
-      ← c .before .before .before .is-cut .ensures,
-    )
-
 pub serve-away-spec : {M : Type 1} → statement M
 unfolding awayOn
 serve-away-spec =
@@ -26,4 +16,4 @@ serve-away-spec =
     (λ c. simp (le-leb _ _ (c .if2 .taken), c .before .if1 .left, ← c .before .before .is-cut .ensures))
     (λ c. search needs)
     (λ c κs. search needs)
-    returns-3)
+    (λ c. simp (c .wait-for .ensures, lt-leb _ _ (c .before .if2 .left), c .before .before .if1 .left, ← c .before .before .before .is-cut .ensures)))

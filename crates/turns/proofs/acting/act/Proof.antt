@@ -4,6 +4,11 @@ use Rattle.turns.specs.Turns.{acted}
 use Rattle.turns.proofs.acting.act.Statement.{statement}
 use Rattle.turns.proofs.acting.act.Tie as tie
 
+-- `A`
+returns : tie.Need-returns
+unfolding acted
+returns c = simp (c .move-on .ensures, c .before .move-to .ensures, c .before .before .before .a .given .1)
+
 pub act-spec : {M : Type 1} → statement M
 unfolding acted
 act-spec =
@@ -34,7 +39,7 @@ act-spec =
     (λ c. search needs)
     (λ c κs. search needs)
     (λ c κs. search needs)
-    (λ c. simp (c .move-on .ensures, c .before .move-to .ensures, c .before .before .before .a .given .1))
+    returns
     (λ c. simp (c .move-on-by .ensures, c .before .move-by .ensures, c .before .before .before .a2 .given .1))
     (λ c. simp (c .move-on-by2 .ensures, c .before .move-by2 .ensures, c .before .before .before .a3 .given .1))
     (λ c. simp (c .set-motor .ensures, c .before .place-at .ensures, c .before .before .before .a4 .given .1))
