@@ -56,7 +56,8 @@ def check(crate, root, tree, folder):
 
 
 def attempt(edit, tree=must_fail.ROOT):
-    """Tries an edit over the crates as they are proved in a tree; its log, its verdict and a line that says both stand where `rt must-fail` leaves them."""
+    """Tries an edit over the crates as they are proved in a tree; its log, its verdict and a line that says both stand where
+    `rt must-fail` leaves them."""
     edit.tried.parent.mkdir(parents=True, exist_ok=True)
     changed(edit, edit.tried)
     with tempfile.TemporaryDirectory() as folder:

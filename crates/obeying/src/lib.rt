@@ -236,7 +236,7 @@ fn terminate(c: Core) -> Change
     Change::Stay
 }
 
-// A byte as a number that can be told.
+// A byte as a number of 32 bits.
 fn wide(x: u8) -> u32
     ensures { λ r. ⌜ r ≡ x ⌝ }
 {
