@@ -1,9 +1,9 @@
--- `obeying::obey_speed_or_busy` meets its contract: an endless move and such a line, or busy.
+-- `obeying::order_speed_or_busy` meets its contract: an endless move and such a line, or busy.
 -- Assumes nothing.
 use borrow.Author.Needs.{needs}
 use borrow.Author.Tests.{not-true, not-false}
-use Rattle.obeying.proofs.obey_speed_or_busy.Statement.{statement}
-use Rattle.obeying.proofs.obey_speed_or_busy.Tie as tie
+use Rattle.obeying.proofs.order_speed_or_busy.Statement.{statement}
+use Rattle.obeying.proofs.order_speed_or_busy.Tie as tie
 
 returns : tie.Need-returns
 returns c =
@@ -27,15 +27,15 @@ returns-3 c =
     let endless = c .before .before .before .before .is-endless in
     let line = c .before .before .is-speed-line in
     simp (
-      c .obey-speed .ensures,
+      c .order-speed .ensures,
       ← endless .ensures,
       not-false (endless .result) (c .before .before .before .if1 .left),
       ← line .ensures,
       not-false (line .result) (c .before .if2 .left),
     )
 
-pub obey-speed-or-busy-spec : {M : Type 1} → statement M
-obey-speed-or-busy-spec =
+pub order-speed-or-busy-spec : {M : Type 1} → statement M
+order-speed-or-busy-spec =
     tie.close
     (tie.spec
     (λ c κs. search needs)

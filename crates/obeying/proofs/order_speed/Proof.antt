@@ -1,10 +1,10 @@
--- `obeying::obey_speed` meets its contract: by the fault that an idle unit finds in the line.
+-- `obeying::order_speed` meets its contract: by the fault that an idle unit finds in the line.
 -- Assumes nothing.
 use borrow.Author.Needs.{needs}
 use borrow.Author.Tests.{eq-eqb, ne-eqb}
 use Rattle.lines.proofs.FaultLaws.{place-most}
-use Rattle.obeying.proofs.obey_speed.Statement.{statement}
-use Rattle.obeying.proofs.obey_speed.Tie as tie
+use Rattle.obeying.proofs.order_speed.Statement.{statement}
+use Rattle.obeying.proofs.order_speed.Tie as tie
 
 returns : tie.Need-returns
 returns c core =
@@ -14,8 +14,8 @@ returns c core =
 returns-2 : tie.Need-returns-2
 returns-2 c core = simp (c .refuse-at .ensures, ← c .before .before .before .check-line .ensures, ne-eqb _ _ (c .before .if1 .left))
 
-pub obey-speed-spec : {M : Type 1} → statement M
-obey-speed-spec =
+pub order-speed-spec : {M : Type 1} → statement M
+order-speed-spec =
     tie.close
     (tie.spec
     (λ c κs. search needs)

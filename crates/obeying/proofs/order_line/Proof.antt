@@ -1,10 +1,10 @@
--- `obeying::obey_line` meets its contract: each arm is the definition's clause.
+-- `obeying::order_line` meets its contract: each arm is the definition's clause.
 -- Assumes nothing.
 use mathlib.Core.Path.{sym, _∙_}
 use borrow.Author.Needs.{needs}
 use Rattle.obeying.proofs.DeedLaws.{line-place}
-use Rattle.obeying.proofs.obey_line.Statement.{statement}
-use Rattle.obeying.proofs.obey_line.Tie as tie
+use Rattle.obeying.proofs.order_line.Statement.{statement}
+use Rattle.obeying.proofs.order_line.Tie as tie
 
 refuse-at-requires : tie.Need-refuse-at-requires
 refuse-at-requires c κs =
@@ -26,12 +26,12 @@ returns-4 c =
     let read = c .before .before .before .before in
     simp (c .hold-writing2 .ensures, c .before .before .line3 .given .1, ← read .line-of .ensures, read .before .if1 .left)
 
-pub obey-line-spec : {M : Type 1} → statement M
-obey-line-spec =
+pub order-line-spec : {M : Type 1} → statement M
+order-line-spec =
     tie.close
     (tie.spec
     (λ c κs. search needs)
-    (λ c. simp (c .obey-speed-or-busy .ensures, c .before .if1 .taken))
+    (λ c. simp (c .order-speed-or-busy .ensures, c .before .if1 .taken))
     (λ c κs. search needs)
     (λ c. search needs)
     refuse-at-requires
