@@ -1,9 +1,7 @@
 //! "Lines at the edges": the cases K1 to K14, with E6's places.
 
-mod rig;
-
+use crate::rig::Rig;
 use drive_model::ramp::{figures, Length};
-use rig::Rig;
 
 #[test]
 fn k1() {

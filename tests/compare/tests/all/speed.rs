@@ -1,10 +1,8 @@
 //! "Speed while turning": paper 02, E3.
 
-mod rig;
-
+use crate::rig::Rig;
 use drive_model::packet;
 use drive_model::turn::Action::{None as Rest, Up};
-use rig::Rig;
 
 const FAR: u32 = 2_147_483_647;
 

@@ -1,10 +1,8 @@
 //! "Where in the line?": paper 02, E6.
 
-mod rig;
-
+use crate::rig::Rig;
 use drive_model::bench::{with_hex, Bench};
 use drive_model::packet;
-use rig::Rig;
 
 /// The answers of the bench to `line`, `count` and a typed line of this body.
 fn judged(body: &str) -> [String; 3] {

@@ -1,12 +1,10 @@
 //! "Endless digits": paper 02, E9.
 
-mod rig;
-
+use crate::rig::Rig;
 use drive_model::image;
 use drive_model::turn::Action::None as Rest;
 use drive_model::unit::{StartRefusal, Unit};
 use drive_model::Code;
-use rig::Rig;
 
 #[test]
 fn lines() {

@@ -1,13 +1,11 @@
 //! "A turn".
 
-mod rig;
-
+use crate::rig::Rig;
 use drive_model::count::count;
 use drive_model::image;
 use drive_model::turn::Action::{Down, None as Rest, Up};
 use drive_model::turn::TurnRefusal;
 use drive_model::Code;
-use rig::Rig;
 
 const FAR: u32 = 2_147_483_647;
 

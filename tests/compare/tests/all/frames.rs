@@ -1,11 +1,9 @@
 //! What frames do to a unit: the rules of "Lines" and "What comes back".
 
-mod rig;
-
+use crate::rig::Rig;
 use drive_model::image;
 use drive_model::turn::Action;
 use drive_model::unit::{FeedRefusal, StartRefusal, Unit};
-use rig::Rig;
 
 fn answered(status: u8, data: &str) -> (u8, String) {
     (status, data.to_string())
