@@ -7,6 +7,9 @@ use Rattle.drive.proofs.answering.answer_completed.Tie as tie
 returns-2 : tie.Need-returns-2
 returns-2 c = answers-alone (c .before .before .before .before .enum-told2 .given .1) (c .before .before .answer-frame .ensures)
 
+returns-3 : tie.Need-returns-3
+returns-3 c = answers-none (rw (c .enum-told3 .given .1))
+
 pub answer-completed-spec : {M : Type 1} → statement M
 answer-completed-spec =
     tie.close
@@ -18,4 +21,4 @@ answer-completed-spec =
     (λ c. answers-none (rw (c .enum-told .given .1)))
     (λ c. search needs)
     returns-2
-    (λ c. answers-none (rw (c .enum-told3 .given .1))))
+    returns-3)
