@@ -1,7 +1,9 @@
+ghost use mathlib.Core.Bool.{cond, not, _&&_};
 ghost use mathlib.Core.Path.{_≡_};
 ghost use Prim.Native.Nat.{_+_, _*_, _/_, _^_, min, _≤_, _<_};
+ghost use Rattle.ramp.specs.declared.Verdict.the-variants.{RefusedN};
 ghost use Rattle.ramp.specs.Ranges.{topV, topL, topN, outside, Within};
-ghost use Rattle.ramp.specs.Peak.{doubleUnit, greatest};
+ghost use Rattle.ramp.specs.Peak.{doubleUnit, greatest, peakOf};
 ghost use Rattle.ramp.specs.Ramp.{verdictNumber, refusedOf, peakFigures, figuresOf};
 ghost use Rattle.ramp.specs.Claims.{RampClaims};
 
@@ -44,19 +46,15 @@ const DOUBLE_UNIT: u64 = 12207;
 pub fn ramp(v: u32, l: u32, endless: bool, n: u32) -> Figures
     ensures { λ r. ⌜ r ≡ figuresOf v l endless n ⌝ }
 {
-    if outside(1, TOP_V, v) {
+    let v_out = v_outside(v);
+    let l_out = l_outside(l);
+    if v_out {
         return refused(Verdict::RefusedV);
     }
-    if outside(1, TOP_L, l) {
+    if l_out {
         return refused(Verdict::RefusedL);
     }
-    if endless {
-        return taken(v, l);
-    }
-    if outside(1, TOP_N, n) {
-        return refused(Verdict::RefusedN);
-    }
-    taken(finite_peak(v, l, n), l)
+    move_figures(v, l, endless, n)
 }
 
 // The number of a verdict for C.
@@ -69,6 +67,41 @@ pub fn code(verdict: Verdict) -> u32
         Verdict::RefusedL => 2,
         Verdict::RefusedN => 3,
     }
+}
+
+// The figures of a move at V and L within their ranges.
+fn move_figures(v: u32, l: u32, endless: bool, n: u32) -> Figures
+    requires { ⌜ Within 1 topV v × Within 1 topL l ⌝ }
+    ensures { λ r. ⌜ r ≡ cond (not endless && outside 1 topN n) (refusedOf RefusedN) (peakFigures (peakOf v l endless n) l) ⌝ }
+{
+    if endless {
+        return taken(v, l);
+    }
+    if n_outside(n) {
+        return refused(Verdict::RefusedN);
+    }
+    taken(finite_peak(v, l, n), l)
+}
+
+// Whether V is outside its range.
+fn v_outside(v: u32) -> bool
+    ensures { λ r. ⌜ r ≡ outside 1 topV v ⌝ }
+{
+    outside(1, TOP_V, v)
+}
+
+// Whether L is.
+fn l_outside(l: u32) -> bool
+    ensures { λ r. ⌜ r ≡ outside 1 topL l ⌝ }
+{
+    outside(1, TOP_L, l)
+}
+
+// Whether N is.
+fn n_outside(n: u32) -> bool
+    ensures { λ r. ⌜ r ≡ outside 1 topN n ⌝ }
+{
+    outside(1, TOP_N, n)
 }
 
 // Whether x is outside low to top.
