@@ -1,9 +1,7 @@
-ghost use mathlib.Core.Bool.{cond, not, _&&_};
 ghost use mathlib.Core.Path.{_≡_};
 ghost use Prim.Native.Nat.{_+_, _*_, _/_, _^_, min, _≤_, _<_};
-ghost use Rattle.ramp.specs.declared.Verdict.the-variants.{RefusedN};
 ghost use Rattle.ramp.specs.Ranges.{topV, topL, topN, outside, Within};
-ghost use Rattle.ramp.specs.Peak.{doubleUnit, greatest, peakOf};
+ghost use Rattle.ramp.specs.Peak.{doubleUnit, greatest};
 ghost use Rattle.ramp.specs.Ramp.{verdictNumber, refusedOf, peakFigures, figuresOf};
 ghost use Rattle.ramp.specs.Claims.{RampClaims};
 
@@ -46,15 +44,19 @@ const DOUBLE_UNIT: u64 = 12207;
 pub fn ramp(v: u32, l: u32, endless: bool, n: u32) -> Figures
     ensures { λ r. ⌜ r ≡ figuresOf v l endless n ⌝ }
 {
-    let v_out = v_outside(v);
-    let l_out = l_outside(l);
-    if v_out {
+    if outside(1, TOP_V, v) {
         return refused(Verdict::RefusedV);
     }
-    if l_out {
+    if outside(1, TOP_L, l) {
         return refused(Verdict::RefusedL);
     }
-    move_figures(v, l, endless, n)
+    if endless {
+        return taken(v, l);
+    }
+    if outside(1, TOP_N, n) {
+        return refused(Verdict::RefusedN);
+    }
+    taken(finite_peak(v, l, n), l)
 }
 
 // The number of a verdict for C.
@@ -67,41 +69,6 @@ pub fn code(verdict: Verdict) -> u32
         Verdict::RefusedL => 2,
         Verdict::RefusedN => 3,
     }
-}
-
-// The figures of a move at V and L within their ranges.
-fn move_figures(v: u32, l: u32, endless: bool, n: u32) -> Figures
-    requires { ⌜ Within 1 topV v × Within 1 topL l ⌝ }
-    ensures { λ r. ⌜ r ≡ cond (not endless && outside 1 topN n) (refusedOf RefusedN) (peakFigures (peakOf v l endless n) l) ⌝ }
-{
-    if endless {
-        return taken(v, l);
-    }
-    if n_outside(n) {
-        return refused(Verdict::RefusedN);
-    }
-    taken(finite_peak(v, l, n), l)
-}
-
-// Whether V is outside its range.
-fn v_outside(v: u32) -> bool
-    ensures { λ r. ⌜ r ≡ outside 1 topV v ⌝ }
-{
-    outside(1, TOP_V, v)
-}
-
-// Whether L is.
-fn l_outside(l: u32) -> bool
-    ensures { λ r. ⌜ r ≡ outside 1 topL l ⌝ }
-{
-    outside(1, TOP_L, l)
-}
-
-// Whether N is.
-fn n_outside(n: u32) -> bool
-    ensures { λ r. ⌜ r ≡ outside 1 topN n ⌝ }
-{
-    outside(1, TOP_N, n)
 }
 
 // Whether x is outside low to top.
