@@ -1,9 +1,9 @@
--- `effects::effect_claims`: each claim is a law. Assumes nothing.
-use Rattle.effects.proofs.BodyLaws.{each-body}
-use Rattle.effects.proofs.TurnLaws.{start-defaults, starts-good, starts-held, feeds, serves, idles, idle, waits, commands, answers, levels}
-use Rattle.effects.proofs.SpeedLaws as speed
-use Rattle.effects.proofs.effect_claims.Statement.{statement}
-use Rattle.effects.proofs.effect_claims.Tie as tie
+-- `claims::effect_claims`: each claim is a law. Assumes nothing.
+use Rattle.claims.proofs.BodyLaws.{each-body}
+use Rattle.claims.proofs.TurnLaws.{start-defaults, starts-good, starts-held, feeds, serves, idles, idle, waits, commands, answers, levels}
+use Rattle.claims.proofs.SpeedLaws as speed
+use Rattle.claims.proofs.effect_claims.Statement.{statement}
+use Rattle.claims.proofs.effect_claims.Tie as tie
 
 returns : tie.Need-returns
 returns c = record {

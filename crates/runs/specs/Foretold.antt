@@ -7,9 +7,9 @@ use Rattle.commands.specs.declared.Command.{Command}
 use Rattle.commands.specs.declared.Read.the-variants.{End}
 use Rattle.turns.specs.Ends.{Reads}
 use Rattle.drive.specs.Unit.{Drive}
 use Rattle.runs.specs.Reach.{Reached, textOf}
 use Rattle.courses.specs.Meaning.{Step, commandsOf, unrolled, courseIn}
-use Rattle.schedule.specs.Ran.{Begins, Ran}
+use Rattle.runs.specs.Ran.{Begins, Ran}
 use Rattle.forecast.specs.declared.Counted.the-variants.{Commands}
 use Rattle.forecast.specs.Count.{bodyText, countOf}
 use Rattle.forecast.specs.Claims.{ForecastClaims}

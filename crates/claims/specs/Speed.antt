@@ -20,8 +20,8 @@ use Rattle.drive.specs.Calls.{receivedBy, bodyBy}
 use Rattle.runs.specs.Reach.{Call, feed, turn, after}
 use Rattle.runs.specs.Causes.{Made}
 use Rattle.obeying.specs.Obeying.{refused, bodyObeyed}
-use Rattle.effects.specs.Bodies.{dataBy, Turns-to}
-use Rattle.effects.specs.Turns.{Takes, aTurn}
+use Rattle.claims.specs.Bodies.{dataBy, Turns-to}
+use Rattle.claims.specs.Turns.{Takes, aTurn}
 
 -- "A body of exactly `V`, its operand and `R`", with so many leading zeros
 abbrev pub speedBody : ℕ → ℕ → List ℕ

@@ -19,7 +19,7 @@ use Rattle.turns.specs.Ends.{Reads, positionThen}
 use Rattle.drive.specs.Unit.{Drive}
 use Rattle.drive.specs.Calls.{Turning}
 use Rattle.runs.specs.Reach.{turn, after, textOf}
-use Rattle.effects.specs.Bodies.{homing}
+use Rattle.claims.specs.Bodies.{homing}
 
 -- the run is where it was: its text, its place and open loops, the settings, and whether a line is loaded
 pub record SameRun (u v : Drive) : Type 0 where

@@ -20,7 +20,7 @@ use Rattle.turns.specs.Turns.{withMotor, started, ended}
 use Rattle.obeying.specs.declared.Tell.{Tell}
 use Rattle.obeying.specs.declared.Obeyed.{Obeyed}
 use Rattle.obeying.specs.Obeying.{bodyObeyed, kindObeyed, dataOf, textWritten, imageWritten, telling, silent, stepSize}
-use Rattle.effects.specs.Bodies.{coreBy, Makes, homing, Stopped, Started, Turns-to, EachBody}
+use Rattle.claims.specs.Bodies.{coreBy, Makes, homing, Stopped, Started, Turns-to, EachBody}
 
 -- what is waited for is given up
 given-up : (w : Wait) (k : Bool) → cond (isLeg w) false k ≡ cond (homing w) false k

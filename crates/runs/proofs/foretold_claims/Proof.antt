@@ -1,8 +1,8 @@
--- `schedule::foretold_claims`: by the claims of the count and of runs. Assumes nothing.
+-- `runs::foretold_claims`: by the claims of the count and of runs. Assumes nothing.
 use borrow.Author.Needs.{needs}
-use Rattle.schedule.proofs.TrueLaws.{comes-true}
-use Rattle.schedule.proofs.foretold_claims.Statement.{statement}
-use Rattle.schedule.proofs.foretold_claims.Tie as tie
+use Rattle.runs.proofs.TrueLaws.{comes-true}
+use Rattle.runs.proofs.foretold_claims.Statement.{statement}
+use Rattle.runs.proofs.foretold_claims.Tie as tie
 
 returns : tie.Need-returns
 returns c = record { comes-true = comes-true (c .before .forecast-claims .ensures) (c .schedule-claims .ensures); told = c .before .forecast-claims .ensures }

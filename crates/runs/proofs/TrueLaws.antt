@@ -3,15 +3,15 @@ use Prim.Native.Nat.{ℕ}
 use mathlib.Core.Path.{_≡_, sym, subst, _∙_}
 use mathlib.Core.List.{List}
 use Rattle.drive.specs.Unit.{Drive}
 use Rattle.runs.specs.Reach.{Reached, textOf}
 use Rattle.courses.specs.Meaning.{Step, Steady, courseIn, commandsIn}
 use Rattle.courses.proofs.SteadyLaws.{costs}
-use Rattle.schedule.specs.Ran.{Begins, Ran}
-use Rattle.schedule.specs.Claims.{RunsCounted, ScheduleClaims}
+use Rattle.runs.specs.Ran.{Begins, Ran}
+use Rattle.runs.specs.Schedule.{RunsCounted, ScheduleClaims}
 use Rattle.forecast.specs.declared.Counted.the-variants.{Commands}
 use Rattle.forecast.specs.Count.{bodyText, countOf}
 use Rattle.forecast.specs.Claims.{ForecastClaims}
-use Rattle.schedule.specs.Foretold.{ComesTrue}
+use Rattle.runs.specs.Foretold.{ComesTrue}
 
 pub comes-true : ForecastClaims → ScheduleClaims → {u v : Drive} {xs : List Step} (b : List ℕ) (k : ℕ) → countOf b ≡ Commands k → Reached u → Begins u
     → textOf u ≡ bodyText b → Ran u xs v → ComesTrue (bodyText b) k xs v

@@ -49,9 +49,9 @@ use Rattle.runs.proofs.CallLaws.{RunSame, feed-same, turn-cases, turn-made}
 use Rattle.runs.proofs.CommandLaws.{turned}
 use Rattle.runs.proofs.SoundLaws.{text-kept}
 use Rattle.answers.specs.Reading.{bit}
-use Rattle.effects.specs.Bodies.{homing}
-use Rattle.effects.specs.Turns as effects
-use Rattle.effects.specs.Turns.{Defaults, HeldAtStart, StartsWith, Levels, SameRun, Letter, Keeps, Idles, Flowing, listed, Plainly, SetsOne, then, Takes, here, atFlag, Leads, Sets, ATurn, aTurn, HomesToward, EachCommand, EachWait, Resting, Answers}
+use Rattle.claims.specs.Bodies.{homing}
+use Rattle.claims.specs.Turns as effects
+use Rattle.claims.specs.Turns.{Defaults, HeldAtStart, StartsWith, Levels, SameRun, Letter, Keeps, Idles, Flowing, listed, Plainly, SetsOne, then, Takes, here, atFlag, Leads, Sets, ATurn, aTurn, HomesToward, EachCommand, EachWait, Resting, Answers}
 
 -- ---- a fresh start
 

@@ -55,10 +55,10 @@ use Rattle.runs.specs.Reach.{Call, feed, turn, after, textOf}
 use Rattle.runs.specs.Causes.{Made}
 use Rattle.runs.proofs.CallLaws.{Completes, framed, feed-cases, feed-done, turn-cases}
 use Rattle.runs.proofs.CommandLaws.{turned}
-use Rattle.effects.specs.Bodies.{dataBy, Turns-to}
-use Rattle.effects.specs.Speed as speed
-use Rattle.effects.specs.Speed.{speedBody, OnTheWay, Sped, Relative, SetBy, on-the-way, from-v, Unset, none, more}
-use Rattle.effects.proofs.BodyLaws.{turns-to, each-body}
+use Rattle.claims.specs.Bodies.{dataBy, Turns-to}
+use Rattle.claims.specs.Speed as speed
+use Rattle.claims.specs.Speed.{speedBody, OnTheWay, Sped, Relative, SetBy, on-the-way, from-v, Unset, none, more}
+use Rattle.claims.proofs.BodyLaws.{turns-to, each-body}
 
 -- ---- such a line on the way
 

@@ -30,11 +30,11 @@ use Rattle.turns.specs.declared.Stepped.{Stepped}
 use Rattle.turns.specs.Turns.{withFlow, withMotor, acted, skipTaken, stays, commandTaken, skipped as skippedTo}
 use Rattle.turns.specs.Ends.{Reads}
 use Rattle.drive.specs.Unit.{Drive}
 use Rattle.runs.specs.Reach.{turn, after, textOf}
 use Rattle.runs.specs.Causes.{Made}
 use Rattle.runs.proofs.CommandLaws.{turned}
-use Rattle.schedule.specs.Claims.{NoJump, GoesOn}
-use Rattle.schedule.proofs.KeptLaws.{moved-flow}
+use Rattle.runs.specs.Schedule.{NoJump, GoesOn}
+use Rattle.runs.proofs.KeptLaws.{moved-flow}
 
 -- a plain command leaves the flow behind it
 acted-flow : (a : Act) (c : Core) → acted a c .flow ≡ c .flow

@@ -21,12 +21,12 @@ use Rattle.obeying.specs.Obeying.{loadedAs}
 use Rattle.obeying.specs.Deeds.{Obeys, refuses, tells, stores, clears, stops, resumes, speeds, again, loads}
 use Rattle.drive.specs.Calls.{Starting, begunOn, freshUnit, noUnit, startOf, receivedBy, bodyBy, Turning}
 use Rattle.drive.proofs.FeedLaws.{frame-does}
 use Rattle.runs.specs.Reach.{Call, feed, turn, after, textOf}
 use Rattle.runs.proofs.SoundLaws.{text-kept}
 use Rattle.runs.proofs.CallLaws.{feed-cases, turn-cases}
 use Rattle.runs.proofs.CommandLaws.{turned}
-use Rattle.schedule.specs.Ran.{TakesCommand, takes, Begins}
-use Rattle.schedule.specs.Claims.{Entered}
+use Rattle.runs.specs.Ran.{TakesCommand, takes, Begins}
+use Rattle.runs.specs.Schedule.{Entered}
 
 -- where it runs, it is at its beginning
 abbrev AtFirst : Core → Type 0

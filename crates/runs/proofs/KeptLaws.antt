@@ -19,10 +19,10 @@ use Rattle.turns.proofs.TurnLaws.{at-command, at-wait}
 use Rattle.drive.specs.Unit.{Drive}
 use Rattle.drive.specs.Calls.{Turning}
 use Rattle.keeping.proofs.TurnLaws.{free}
 use Rattle.runs.specs.Reach.{Call, feed, turn, after, textOf}
 use Rattle.runs.specs.Causes.{Made}
 use Rattle.runs.proofs.CallLaws.{feed-same, turn-cases}
-use Rattle.schedule.specs.Ran.{TakesCommand, takes}
+use Rattle.runs.specs.Ran.{TakesCommand, takes}
 
 -- the text and the flow are those of u
 abbrev pub Same : List ℕ → Core → List ℕ → Core → Type 0

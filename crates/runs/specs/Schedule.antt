@@ -13,10 +13,10 @@ use Rattle.image.specs.Image.{slotText}
 use Rattle.turns.specs.Ends.{Reads}
 use Rattle.drive.specs.Unit.{Drive}
 use Rattle.drive.specs.Calls.{startOf}
 use Rattle.runs.specs.Reach.{Call, turn, after, Reached, textOf}
 use Rattle.runs.specs.Causes.{Made}
 use Rattle.courses.specs.Meaning.{Step, step, Runs, commandsOf, Steady, unrolled, courseIn, commandsIn}
-use Rattle.schedule.specs.Ran.{TakesCommand, Begins, Ran}
+use Rattle.runs.specs.Ran.{TakesCommand, Begins, Ran}
 
 -- no `e` among the commands: all are of one text
 abbrev pub NoJump : Command → Type 0

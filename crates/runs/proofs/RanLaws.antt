@@ -20,15 +20,15 @@ use Rattle.turns.specs.declared.Enter.{Enter}
 use Rattle.turns.specs.Turns.{withMotor, textAfter}
 use Rattle.turns.specs.Ends.{Reads}
 use Rattle.drive.specs.Unit.{Drive}
 use Rattle.runs.specs.Reach.{Call, turn, after, Reached, textOf}
 use Rattle.runs.specs.Causes.{Made}
 use Rattle.runs.proofs.ReachLaws.{reached-sound}
 use Rattle.runs.proofs.CommandLaws.{turned}
-use Rattle.schedule.specs.Ran.{TakesCommand, takes, Begins, Ran, none, taking, other}
-use Rattle.schedule.specs.Claims.{NoJump, InText, RunsAs, RunsCounted}
-use Rattle.schedule.proofs.KeptLaws.{kept}
-use Rattle.schedule.proofs.TakenLaws.{command-goes}
-use Rattle.schedule.proofs.BeginLaws.{enters}
+use Rattle.runs.specs.Ran.{TakesCommand, takes, Begins, Ran, none, taking, other}
+use Rattle.runs.specs.Schedule.{NoJump, InText, RunsAs, RunsCounted}
+use Rattle.runs.proofs.KeptLaws.{kept}
+use Rattle.runs.proofs.TakenLaws.{command-goes}
+use Rattle.runs.proofs.BeginLaws.{enters}
 
 -- v is in the text t, and has taken xs of the course `whole`
 pub record Still (t : List ℕ) (whole : Course) (xs : List Step) (v : Drive) : Type 0 where

@@ -12,9 +12,9 @@ use Rattle.drive.specs.declared.StartAnswer.{StartAnswer}
 use Rattle.drive.specs.Calls.{startOf, turnOf}
 use Rattle.runs.specs.Reach.{feed, turn, after}
 use Rattle.runs.specs.Causes.{Made}
-use Rattle.effects.specs.Bodies.{EachBody}
-use Rattle.effects.specs.Speed.{SpeedClaims}
-use Rattle.effects.specs.Turns.{Defaults, HeldAtStart, StartsWith, Levels, SameRun, Idles, aTurn, here, EachCommand, EachWait, Answers}
+use Rattle.claims.specs.Bodies.{EachBody}
+use Rattle.claims.specs.Speed.{SpeedClaims}
+use Rattle.claims.specs.Turns.{Defaults, HeldAtStart, StartsWith, Levels, SameRun, Idles, aTurn, here, EachCommand, EachWait, Answers}
 
 pub record EffectClaims : Type 0 where
   pub defaults : (number : ℕ) (image body text : List ℕ) → startOf number image body text .answer ≡ StartAnswer.Started
