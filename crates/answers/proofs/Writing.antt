@@ -6,8 +6,8 @@ use mathlib.Core.List.{List, [], _∷_}
 use mathlib.Core.Bool.{Bool, true, false}
 use native.Mathlib.Omega.{arith}
 use lib.ListN.{length, replicate, length-append}
-use lib.Dec.{leb}
-use borrow.Author.Tests.{le-leb, lt-leb}
+use lib.Dec.{leb, ltb}
+use borrow.Author.Tests.{le-leb, lt-leb, ltb-true, ltb-false}
 use Rattle.parts.specs.Parts.{put, PutIs}
 use Rattle.parts.proofs.Laws.{put-more, put-in-room, length-put-in, put-zeros}
 use Rattle.digits.specs.Operand.{widest}
@@ -21,6 +21,13 @@ use Rattle.answers.specs.declared.Data.{Data}
 pub length-frame : (start : ℕ) (back : List ℕ) (status : ℕ) (bytes : List ℕ)
     → length (packetAround start back status bytes) ≡ dataAt + length bytes + length back
 length-frame start back status bytes = simp length-append (omega arith)
+
+-- the test of the data's length
+pub many : {r : Bool} {n : ℕ} → r ≡ ltb mostData n → r ≡ true → mostData < n
+many e h = ltb-true _ _ (sym e ∙ h)
+
+pub few : {r : Bool} {n : ℕ} → r ≡ ltb mostData n → r ≡ false → n ≤ mostData
+few e h = ltb-false _ _ (sym e ∙ h)
 
 -- ---- the promise, met each way
 

@@ -1,6 +1,7 @@
 // Answers: the status, a packet written from a status and data, a packet read, in both framings.
 ghost use mathlib.Core.Path.{_≡_};
-ghost use Rattle.answers.specs.Packet.{statusOf, numberData, packetAround, PacketAs, PacketIs};
+ghost use lib.Dec.{ltb};
+ghost use Rattle.answers.specs.Packet.{mostData, statusOf, numberData, packetAround, PacketAs, PacketIs};
 ghost use Rattle.answers.specs.Reading.{framed, goodStatus, goodData, insideBy, toldOf, readOf};
 ghost use Rattle.answers.specs.Room.{Roomy};
 ghost use Rattle.answers.specs.Oem.{oemSum, OemPacketIs, oemFramed, readOemOf};
@@ -117,7 +118,7 @@ fn write_framed(buffer: &mut [u8], start: u8, status: u8, data: &[u8], tail: &[u
     ensures { λ r. ⌜ PacketAs (packetAround start (now (tail .entry))) (now (buffer .entry)) status (now («data» .entry)) r (now (buffer .exit)) ⌝ }
 {
     let n = data.len();
-    if MOST_DATA < n {
+    if too_long(n) {
         return Written::NoRoom;
     }
     let end = DATA_AT + n;
@@ -266,7 +267,7 @@ fn good_status(status: u8) -> bool
 fn good_data(bytes: &[u8]) -> bool
     ensures { λ r. ⌜ r ≡ goodData (now (bytes .entry)) ⌝ }
 {
-    if MOST_DATA < bytes.len() {
+    if too_long(bytes.len()) {
         return false;
     }
     let mut i = 0;
@@ -281,6 +282,13 @@ fn good_data(bytes: &[u8]) -> bool
         i += 1;
     }
     true
+}
+
+// Whether so many bytes are more than the data of a packet may have.
+fn too_long(n: usize) -> bool
+    ensures { λ r. ⌜ r ≡ ltb mostData n ⌝ }
+{
+    MOST_DATA < n
 }
 
 // What is claimed of status and packets together.

@@ -30,7 +30,7 @@ use Rattle.runs.proofs.CallLaws.{framed, feed-cases, feed-done, turn-cases, tur
 use Rattle.runs.proofs.ReachLaws.{reached-sound}
 use Rattle.runs.proofs.AstrayLaws.{never-astray}
 use Rattle.runs.proofs.EndLaws.{ends-exactly}
-use Rattle.effects.proofs.TurnLaws.{starts-good, starts-held, idle}
+use Rattle.claims.proofs.TurnLaws.{starts-good, starts-held, idle}
 use Rattle.claims.specs.Demand1.{frameCode}
 use Rattle.claims.proofs.OrderLaws.{order-row}
 

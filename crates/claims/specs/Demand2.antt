@@ -29,7 +29,7 @@ use Rattle.stream.specs.Claims.{StreamClaims}
 use Rattle.stream.specs.Oem.{OemClaims}
 use Rattle.runs.specs.Reach.{Reached}
 use Rattle.runs.specs.Packets.{PacketClaims}
-use Rattle.effects.specs.Claims.{EffectClaims}
+use Rattle.claims.specs.Effects.{EffectClaims}
 use Rattle.claims.specs.Demand1.{From}
 use Rattle.claims.specs.Addressed.{Addressed}
 use Rattle.claims.specs.Moves.{MoveTurns}

@@ -23,7 +23,7 @@ use Rattle.stream.specs.Fits.{Fits}
 use Rattle.stream.specs.Oem.{Heeded}
 use Rattle.runs.specs.Causes.{causeCodes}
 use Rattle.runs.specs.Packets.{answeredBy}
-use Rattle.effects.specs.Bodies.{coreBy, textBy, imageBy, dataBy}
+use Rattle.claims.specs.Bodies.{coreBy, textBy, imageBy, dataBy}
 use Rattle.claims.specs.Demand1.{frameCode}
 
 -- a frame for this unit alone, the body of it that is obeyed, and the packet that answers it in the frame's framing

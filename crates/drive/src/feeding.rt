@@ -3,7 +3,8 @@ ghost use mathlib.Core.Path.{_≡_};
 ghost use mathlib.Core.List.{List};
 ghost use Prim.Native.Nat.{ℕ, _≤_};
 ghost use lib.ListN.{length};
-ghost use Rattle.answers.specs.Packet.{packetBytes};
+ghost use mathlib.Core.Bool.{not};
+ghost use Rattle.answers.specs.Packet.{packetBytes, statusOf};
 ghost use Rattle.frames.specs.Receive.{heardWith};
 ghost use Rattle.obeying.specs.Obeying.{bodyObeyed};
 ghost use Rattle.drive.specs.Unit.{unitOf};
@@ -16,6 +17,7 @@ use crate::FeedAnswer;
 use crate::Record;
 use frames::Heard;
 use obeying::Write;
+use turns::Core;
 
 // The longest packet.
 const PACKET_BYTES: usize = 262;
@@ -101,7 +103,7 @@ pub(crate) fn feed_frame(
     let core = o.core;
     let flow = core.flow;
     let tell = o.tell;
-    let status = answers::status(!core.running, o.code);
+    let status = status_after(core, o.code);
     let answered = crate::answering::answer_completed(
         frame,
         framing,
@@ -123,6 +125,13 @@ pub(crate) fn feed_frame(
         answered: answered,
         answer: FeedAnswer::Taken,
     }
+}
+
+// The status byte that tells a code: idle or running after the frame.
+fn status_after(c: Core, code: u8) -> u8
+    ensures { λ r. ⌜ r ≡ statusOf (not (c .running)) code ⌝ }
+{
+    answers::status(!c.running, code)
 }
 
 // What a body has to write, written to the text and the image.

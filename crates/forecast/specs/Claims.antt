@@ -1,4 +1,4 @@
--- What is claimed of the count. 02, E14. That it comes true in every run is claimed in `foretold`. Assumes nothing.
+-- What is claimed of the count. 02, E14. That it comes true in every run is claimed in `runs`. Assumes nothing.
 use Prim.Native.Nat.{ℕ, _≤_}
 use mathlib.Core.List.{List}
 use mathlib.Core.Path.{_≡_}

@@ -4,20 +4,21 @@ use mathlib.Core.Path.{_≡_, refl, sym, ap, _∙_}
 use mathlib.Core.List.{List, [], _∷_, _++_, append-assoc, append-nil}
 use mathlib.Core.Bool.{Bool, true, false, cond}
 use native.Mathlib.Omega.{arith}
+use native.Mathlib.Decide.{decLt}
 use native.Mathlib.Nat.{add-zero}
 use native.Mathlib.Numerals.{add-one}
 use lib.ListN.{length, getD, take, drop, length-append, take-append-drop}
 use lib.Seq.{take-suc, take-take}
 use borrow.Author.Tests.{le-leb, lt-leb, leb-true, leb-false}
-use Rattle.parts.specs.Parts.{put, fitsAt}
+use Rattle.parts.specs.Parts.{put, fitsAt, mostBytes}
 use Rattle.parts.proofs.Laws.{put-in-room, put-more, length-put}
 use Rattle.digits.specs.declared.Written.{Written}
 use Rattle.digits.specs.declared.Written.the-variants.{Past, NoRoom}
 use Rattle.digits.specs.Decimal.{WrittenIs}
 use Rattle.commands.specs.declared.Command.{Command}
 use Rattle.commands.specs.Writing.{spelled}
-use Rattle.lines.specs.Lists.{commandsText}
-use Rattle.host.specs.Adding.{AddedIs}
+use Rattle.lines.specs.Lists.{HostList, commandsText, runText, writtenOf}
+use Rattle.host.specs.Adding.{AddedIs, MadeIs}
 
 -- what is written is added
 pub written-added : {line : List ℕ} {at : ℕ} {text : List ℕ} {r : Written} {after : List ℕ} → WrittenIs line at text r after → AddedIs line at text r after
@@ -107,3 +108,29 @@ module _ {line : List ℕ} {start : ℕ} (cs : List Command) (i : ℕ) (d : Comm
 
   pub none-added : (count : ℕ) {after : List ℕ} → i < count → WrittenIs mid at (spelled (getD cs i d)) NoRoom after → AddedIs line start (commandsText (take count cs)) NoRoom after
   none-added count {after} h w = rw (commands-split cs (i + 1) count (omega arith)) (added-none (commandsText (drop (i + 1) (take count cs))) after (one-added w))
+
+-- ---- R, or nothing
+pub run-added : {line : List ℕ} {at : ℕ} {run : Bool} {r : Written} {after : List ℕ} → run ≡ true → WrittenIs line at (runText true) r after
+    → AddedIs line at (runText run) r after
+run-added e w = rw e (written-added w)
+
+pub no-run-added : (line : List ℕ) (at : ℕ) {run : Bool} → run ≡ false → at ≤ length line → AddedIs line at (runText run) (Past at) line
+no-run-added line at e h = rw e (nothing-added line at h)
+
+-- ---- the whole line
+pub made : {line : List ℕ} {l : HostList} {count : ℕ} {r : Written} {after : List ℕ} → count ≤ mostBytes → AddedIs line 0 (writtenOf l) r after → MadeIs line l count r after
+made h a = record { few = λ g. a; many = λ g. absurd (omega arith) }
+
+pub made-none : {line : List ℕ} {l : HostList} {count : ℕ} {after : List ℕ} → mostBytes < count → MadeIs line l count NoRoom after
+made-none h = record { few = λ g. absurd (omega arith); many = λ g. refl }
+
+-- it was made: of at most 256 commands
+pub made-few : {line : List ℕ} {l : HostList} {count n : ℕ} {after : List ℕ} → MadeIs line l count (Past n) after → count ≤ mostBytes
+made-few {count} {n} m = go (decLt mostBytes count)
+  where
+    go : Dec (mostBytes < count) → count ≤ mostBytes
+    go (yes h) = let e : Past n ≡ NoRoom = m .many h in let z : _≡_ {A = ℕ} 0 1 = cc in absurd (omega arith)
+    go (no h) = omega arith
+
+pub made-inside : {line : List ℕ} {l : HostList} {count n : ℕ} {after : List ℕ} → MadeIs line l count (Past n) after → n ≤ length after
+made-inside m = added-inside (m .few (made-few m))

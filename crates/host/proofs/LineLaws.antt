@@ -5,11 +5,12 @@ use mathlib.Core.Path.{_≡_, refl, sym, ap, _∙_}
 use mathlib.Core.List.{List}
 use mathlib.Core.Bool.{Bool, true, false, cond}
 use native.Mathlib.Omega.{arith}
+use native.Mathlib.Decide.{decLt}
 use lib.ListN.{length, take, replicate, length-replicate}
 use lib.Dec.{eqb}
-use borrow.Author.Tests.{lt-ltb, le-ltb, ne-eqb, leb-true, leb-false}
-use Rattle.parts.specs.Parts.{fitsAt, PutIs, mostBytes}
-use Rattle.parts.proofs.Laws.{take-put, put-in-room, put-in-full}
+use borrow.Author.Tests.{lt-ltb, le-ltb}
+use Rattle.parts.specs.Parts.{fitsAt, put, putIn, mostBytes}
+use Rattle.parts.proofs.Laws.{take-put}
 use Rattle.digits.specs.declared.Written.the-variants.{Past, NoRoom}
 use Rattle.commands.specs.declared.Fault.{Fault}
 use Rattle.commands.specs.Reading.{fault}
@@ -19,8 +20,8 @@ use Rattle.lines.proofs.ListLaws.{list-law}
 use Rattle.lines.proofs.FaultLaws.{over-long}
 use Rattle.host.specs.declared.LineWritten.{LineWritten}
 use Rattle.host.specs.Host.{codeOf, placeOf, faultOf, fitted, answerOf, leftBy, LineIs}
-use Rattle.host.specs.Adding.{AddedIs}
-use Rattle.host.proofs.AddLaws.{fits, too-long}
+use Rattle.host.specs.Adding.{MadeIs, CheckedIs}
+use Rattle.host.proofs.AddLaws.{fits, too-long, made-few}
 
 -- no second answer meets the promise
 pub line-once : {l : HostList} {count : ℕ} {buffer : List ℕ} {r s : LineWritten} {x y : List ℕ}
@@ -59,49 +60,38 @@ fault-few l count h =
     ap (λ (c : ℕ). fault c (placeOf l count)) (code-few l count h ∙ sym (list-law l))
     ∙ rw (le-ltb mostBytes count h)
 
--- the line was made in 256 bytes
-module _ (l : HostList) (count : ℕ) (buffer : List ℕ) (few : count ≤ mostBytes) where
-  pub line-passes : {after : List ℕ} → AddedIs (replicate 256 0) 0 (writtenOf l) NoRoom after → LineIs l count buffer (LineWritten.Refused (fault 2 0)) buffer
-  line-passes a =
-      let h : mostBytes < length (writtenOf l) = omega (arith, too-long a, length-replicate {A = ℕ} 256 0) in
-      line-refused l count buffer (fault 2 0) (sym (fault-few l count few ∙ over-long (writtenOf l) h)) refl
+-- the line was to be made in 256 bytes
+module _ (l : HostList) (count : ℕ) (buffer : List ℕ) where
+  -- it passes them
+  pub line-passes : {after : List ℕ} → MadeIs (replicate 256 0) l count NoRoom after → LineIs l count buffer (LineWritten.Refused (fault 2 0)) buffer
+  line-passes m = go (decLt mostBytes count)
+    where
+      go : Dec (mostBytes < count) → LineIs l count buffer (LineWritten.Refused (fault 2 0)) buffer
+      go (yes h) = count-refused l count buffer h
+      go (no h) =
+          let few : count ≤ mostBytes = omega arith in
+          let long : mostBytes < length (writtenOf l) = omega (arith, too-long (m .few few), length-replicate {A = ℕ} 256 0) in
+          line-refused l count buffer (fault 2 0) (sym (fault-few l count few ∙ over-long (writtenOf l) long)) refl
 
-  module _ {n : ℕ} {line : List ℕ} (a : AddedIs (replicate 256 0) 0 (writtenOf l) (Past n) line) where
-    made-length : n ≡ length (writtenOf l)
-    made-length = omega (arith, fits a .past)
-
-    made-bytes : take (n - 0) line ≡ writtenOf l
-    made-bytes =
-        let long : n - 0 ≡ 0 + length (writtenOf l) = omega (arith, fits a .past) in
-        rw (fits a .bytes, long) (take-put (replicate 256 0) 0 (writtenOf l) (omega arith))
-
-    -- the line check's fault is the fault of the list
-    made-fault : (f : Fault) → f ≡ lineFault (take (n - 0) line) → f ≡ faultOf l count
-    made-fault f e = e ∙ rw made-bytes (sym (fault-few l count few))
-
-    pub made-refused : (f : Fault) → f ≡ lineFault (take (n - 0) line) → (f .code ≡ 0 → ⊥) → LineIs l count buffer (LineWritten.Refused f) buffer
-    made-refused f e h = line-refused l count buffer f (made-fault f e) (ne-eqb (f .code) 0 h)
-
-    taken : (f : Fault) → f ≡ lineFault (take (n - 0) line) → f .code ≡ 0 → answerOf l count buffer ≡ fitted buffer (length (writtenOf l))
-    unfolding answerOf
-    taken f e h = let same : codeOf l count ≡ 0 = sym (ap (λ (x : Fault). x .code) (made-fault f e)) ∙ h in rw same
-
-    fit : {b : Bool} → fitsAt buffer 0 (length (writtenOf l)) ≡ b
-        → fitted buffer (length (writtenOf l)) ≡ cond b (LineWritten.Bytes (length (writtenOf l))) LineWritten.NoRoom
-    fit e = ap (λ (b : Bool). cond b (LineWritten.Bytes (length (writtenOf l))) LineWritten.NoRoom) e
-
-    pub made-put : {after : List ℕ} (f : Fault) → f ≡ lineFault (take (n - 0) line) → f .code ≡ 0 → PutIs buffer 0 (take (n - 0) line) true after
-        → LineIs l count buffer (LineWritten.Bytes n) after
-    made-put f e h p =
-        let q = rw made-bytes at p in
-        let k : 0 + length (writtenOf l) ≤ length buffer = leb-true _ _ (sym (q .answers)) in
-        line-is l count buffer
-        (ap (λ (k : ℕ). LineWritten.Bytes k) made-length ∙ sym (taken f e h ∙ fit (sym (q .answers))))
-        (q .leaves ∙ put-in-room buffer 0 (writtenOf l) k)
-
-    pub made-short : {after : List ℕ} (f : Fault) → f ≡ lineFault (take (n - 0) line) → f .code ≡ 0 → PutIs buffer 0 (take (n - 0) line) false after
-        → LineIs l count buffer LineWritten.NoRoom after
-    made-short f e h p =
-        let q = rw made-bytes at p in
-        let k : length buffer < 0 + length (writtenOf l) = leb-false _ _ (sym (q .answers)) in
-        line-is l count buffer (sym (taken f e h ∙ fit (sym (q .answers)))) (q .leaves ∙ put-in-full buffer 0 (writtenOf l) k)
+  -- it was made, and written where the line check takes it and there is room
+  pub line-written : {n : ℕ} {line after : List ℕ} {answer : LineWritten} → MadeIs (replicate 256 0) l count (Past n) line
+      → CheckedIs (take (n - 0) line) buffer answer after → LineIs l count buffer answer after
+  unfolding answerOf putIn
+  line-written {n} {line} m k =
+      let few : count ≤ mostBytes = made-few m in
+      let f = fits (m .few few) in
+      let long : n - 0 ≡ 0 + length (writtenOf l) = omega (arith, f .past) in
+      let made : take (n - 0) line ≡ writtenOf l = rw (f .bytes, long) (take-put (replicate 256 0) 0 (writtenOf l) (omega arith)) in
+      let c = rw made at k in
+      let same = sym (fault-few l count few) in
+      record {
+        answers = c .answers ∙ ap (λ (f : Fault). cond (eqb (f .code) 0) (fitted buffer (length (writtenOf l))) (LineWritten.Refused f)) same;
+        leaves = c .leaves ∙ ap (λ (f : Fault). cond (eqb (f .code) 0) (putIn buffer 0 (writtenOf l)) buffer) same
+            ∙ sym (left-by (eqb (codeOf l count) 0) (fitsAt buffer 0 (length (writtenOf l))));
+      }
+    where
+      left-by : (taken room : Bool) → leftBy (cond taken (cond room (LineWritten.Bytes (length (writtenOf l))) LineWritten.NoRoom) (LineWritten.Refused (faultOf l count))) l buffer
+          ≡ cond taken (cond room (put buffer 0 (writtenOf l)) buffer) buffer
+      left-by true true = refl
+      left-by true false = refl
+      left-by false room = refl

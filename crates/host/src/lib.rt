@@ -1,9 +1,9 @@
 // The host's side: a line written from a list of commands.
 ghost use Prim.Native.Nat.{_≤_};
 ghost use lib.ListN.{take, length};
-ghost use Rattle.lines.specs.Lists.{slotSpelled, commandsText, runText, writtenOf};
+ghost use Rattle.lines.specs.Lists.{slotSpelled, commandsText, runText};
 ghost use Rattle.host.specs.Host.{hostList, LineIs};
-ghost use Rattle.host.specs.Adding.{AddedIs};
+ghost use Rattle.host.specs.Adding.{AddedIs, MadeIs, TakenIs, CheckedIs};
 ghost use Rattle.host.specs.Claims.{HostClaims};
 use commands::Command;
 use commands::Fault;
@@ -32,22 +32,11 @@ pub fn write_line(
 ) -> LineWritten
     ensures { λ r. ⌜ LineIs (hostList slot commands count run) count (now (buffer .entry)) r (now (buffer .exit)) ⌝ }
 {
-    if LINE_BYTES < count {
-        return LineWritten::Refused(Fault { code: 2, place: 0 });
-    }
     let mut line = [0u8; LINE_BYTES];
     let Written::Past(n) = make_line(slot, commands, count, run, &mut line) else {
         return LineWritten::Refused(Fault { code: 2, place: 0 });
     };
-    let fault = lines::check_line(&line[0..n]);
-    let code = fault.code;
-    if code != 0 {
-        return LineWritten::Refused(fault);
-    }
-    if parts::put_at(buffer, 0, &line[0..n]) {
-        return LineWritten::Bytes(n);
-    }
-    LineWritten::NoRoom
+    write_checked(&line[0..n], buffer)
 }
 
 // What is claimed of the host's lines.
@@ -55,7 +44,29 @@ pub fn host_claims()
     ensures { λ _. ⌜ HostClaims ⌝ }
 {}
 
-// Makes the line from its first byte on, where it does not pass the end.
+// Writes a line that the line check takes.
+fn write_checked(line: &[u8], buffer: &mut [u8]) -> LineWritten
+    ensures { λ r. ⌜ CheckedIs (now (line .entry)) (now (buffer .entry)) r (now (buffer .exit)) ⌝ }
+{
+    let fault = lines::check_line(line);
+    let code = fault.code;
+    if code != 0 {
+        return LineWritten::Refused(fault);
+    }
+    write_taken(line, buffer)
+}
+
+// Writes a line where the buffer has room for it.
+fn write_taken(line: &[u8], buffer: &mut [u8]) -> LineWritten
+    ensures { λ r. ⌜ TakenIs (now (line .entry)) (now (buffer .entry)) r (now (buffer .exit)) ⌝ }
+{
+    if parts::put_at(buffer, 0, line) {
+        return LineWritten::Bytes(line.len());
+    }
+    LineWritten::NoRoom
+}
+
+// Makes the line from its first byte on, where it does not pass the end: more than 256 commands do.
 fn make_line(
     slot: Slot,
     commands: [Command; LINE_BYTES],
@@ -63,9 +74,11 @@ fn make_line(
     run: bool,
     line: &mut [u8],
 ) -> Written
-    requires { ⌜ count ≤ length commands ⌝ }
-    ensures { λ r. ⌜ AddedIs (now (line .entry)) 0 (writtenOf (hostList slot commands count run)) r (now (line .exit)) ⌝ }
+    ensures { λ r. ⌜ MadeIs (now (line .entry)) (hostList slot commands count run) count r (now (line .exit)) ⌝ }
 {
+    if LINE_BYTES < count {
+        return Written::NoRoom;
+    }
     let Written::Past(start) = add_slot(line, slot) else {
         return Written::NoRoom;
     };

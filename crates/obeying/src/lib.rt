@@ -141,10 +141,10 @@ fn order_of(c: Core, body: &[u8]) -> Order
     match kind {
         Body::Refused(f) => refuse_at(f),
         Body::Empty => hold(Change::Stay, Tell::Nothing),
-        Body::Immediate(i) => obey_immediate(c, i),
-        Body::Run => obey_run(c),
-        Body::Again => obey_again(c),
-        Body::Line => obey_line(c, body),
+        Body::Immediate(i) => order_immediate(c, i),
+        Body::Run => order_run(c),
+        Body::Again => order_again(c),
+        Body::Line => order_line(c, body),
     }
 }
 
@@ -207,7 +207,7 @@ fn hold_writing(change: Change, write: Write) -> Order
 }
 
 // What an immediate body orders, while running too.
-fn obey_immediate(c: Core, i: Immediate) -> Order
+fn order_immediate(c: Core, i: Immediate) -> Order
     ensures { λ o. ⌜ orderedAs o c ≡ immediateObeyed i c ⌝ }
 {
     let m = c.motor;
@@ -261,7 +261,7 @@ fn step_size(exponent: u32) -> u32
 }
 
 // `R` alone: a wait at `H` ends, or a loaded line not yet run runs.
-fn obey_run(c: Core) -> Order
+fn order_run(c: Core) -> Order
     ensures { λ o. ⌜ orderedAs o c ≡ runObeyed c ⌝ }
 {
     if c.running {
@@ -285,7 +285,7 @@ fn resume(c: Core) -> Order
 }
 
 // `X` alone.
-fn obey_again(c: Core) -> Order
+fn order_again(c: Core) -> Order
     ensures { λ o. ⌜ orderedAs o c ≡ againObeyed c ⌝ }
 {
     if c.running {
@@ -303,12 +303,12 @@ fn run_text(c: Core) -> Change
 }
 
 // A line or a store, where the unit is idle; where it runs, none but the endless speed.
-fn obey_line(c: Core, body: &[u8]) -> Order
+fn order_line(c: Core, body: &[u8]) -> Order
     requires { ⌜ bodyOf (now body) ≡ Body.Line ⌝ }
     ensures { λ o. ⌜ orderedAs o c ≡ lineOrBusy (now (body .entry)) c ⌝ }
 {
     if c.running {
-        return obey_speed_or_busy(c, body);
+        return order_speed_or_busy(c, body);
     }
     let line = lines::line_of(body);
     match line {
@@ -326,7 +326,7 @@ fn obey_line(c: Core, body: &[u8]) -> Order
 }
 
 // A line while running.
-fn obey_speed_or_busy(c: Core, body: &[u8]) -> Order
+fn order_speed_or_busy(c: Core, body: &[u8]) -> Order
     ensures { λ o. ⌜ orderedAs o c ≡ speedOrBusy (now (body .entry)) c ⌝ }
 {
     let m = c.motor;
@@ -336,11 +336,11 @@ fn obey_speed_or_busy(c: Core, body: &[u8]) -> Order
     if !speed::is_speed_line(body) {
         return refuse(BUSY);
     }
-    obey_speed(body)
+    order_speed(body)
 }
 
 // The endless speed set, or the line refused.
-fn obey_speed(body: &[u8]) -> Order
+fn order_speed(body: &[u8]) -> Order
     ensures { λ o. ⌜ ((c : Core) → orderedAs o c ≡ speedObeyed (now (body .entry)) c) ⌝ }
 {
     let fault = lines::check_line(body);

@@ -1,6 +1,6 @@
-//! `port PROGRAM [SEED] [CALLS]`: the C port, linked into `calls.c`, against the independent model, on random bodies, texts,
-//! images and ramps; and the proved program `pace` against the model's, on all that the bench times. PROGRAM is the linked
-//! `calls`. The last line is 'N passed, M failed'.
+//! `port PROGRAM [SEED] [CALLS] [WORD..]`: the C port, linked into `calls.c`, against the independent model, on random bodies,
+//! texts, images and ramps; and the proved program `pace` against the model's, on all that the bench times. PROGRAM is the
+//! linked `calls`, or what runs it: the words are given to it. The last line is 'N passed, M failed'.
 
 use std::fmt;
 use std::io::{self, Write};
@@ -18,9 +18,12 @@ const PACE: &str = concat!(env!("CARGO_MANIFEST_DIR"), "/../../target/bin/pace")
 /// Calls of one process.
 const BATCH: usize = 10_000;
 
-/// Starts a program for x86-64 on an input that it reads to the end before it writes.
-fn start(program: &str, input: &[u8]) -> io::Result<Output> {
-    let mut child = Command::new(ON).arg(program).stdin(Stdio::piped()).stdout(Stdio::piped()).spawn()?;
+/// A program, with its words.
+type Started<'a> = (&'a str, &'a [String]);
+
+/// Starts a program on an input that it reads to the end before it writes.
+fn start((program, words): Started, input: &[u8]) -> io::Result<Output> {
+    let mut child = Command::new(program).args(words).stdin(Stdio::piped()).stdout(Stdio::piped()).spawn()?;
     // A program that ends early says more by how it ends than the broken pipe does.
     let _ = child.stdin.take().expect("a pipe").write_all(input);
     child.wait_with_output()
@@ -160,10 +163,10 @@ fn kind(call: &Call, answer: u64) -> String {
 }
 
 /// Compares all answers, as far as they go; false where the program did not end well.
-fn check_batch(program: &str, cases: &[Vec<Call>], tally: &mut Tally) -> bool {
+fn check_batch(program: Started, cases: &[Vec<Call>], tally: &mut Tally) -> bool {
     let mut input = Vec::new();
     cases.iter().flatten().for_each(|call| call.write(&mut input));
-    let output = start(program, &input).unwrap_or_else(|error| panic!("{ON}: {error}"));
+    let output = start(program, &input).unwrap_or_else(|error| panic!("{}: {error}", program.0));
     let mut answers = output.stdout.chunks_exact(8).map(|bytes| u64::from_le_bytes(bytes.try_into().expect("8 bytes")));
     for case in cases {
         let wanted: Vec<u64> = case.iter().map(Call::answer).collect();
@@ -176,7 +179,7 @@ fn check_batch(program: &str, cases: &[Vec<Call>], tally: &mut Tally) -> bool {
         }
     }
     if !output.status.success() {
-        println!("{program} ended with {}", output.status);
+        println!("{} ended with {}", program.0, output.status);
         tally.failed += 1;
     }
     output.status.success()
@@ -186,7 +189,7 @@ fn check_batch(program: &str, cases: &[Vec<Call>], tally: &mut Tally) -> bool {
 fn check_pace(mode: &Mode, tally: &mut Tally) {
     let input = mode.input(1000);
     let wanted = format!("{}\n", pace::digest(&input).expect("what `pace` reads"));
-    let output = start(PACE, &input).unwrap_or_else(|error| panic!("{ON}: {error}"));
+    let output = start((ON, &[PACE.to_string()]), &input).unwrap_or_else(|error| panic!("{ON}: {error}"));
     let found = String::from_utf8_lossy(&output.stdout).into_owned();
     tally.same(|| mode.name.to_string(), "pace".to_string(), found, wanted);
 }
@@ -215,17 +218,20 @@ const KINDS: [&str; 20] = [
     "pace",
 ];
 
+const USAGE: &str = "port PROGRAM [SEED] [CALLS] [WORD..]";
+
 fn main() {
     let mut words = std::env::args().skip(1);
-    let program = words.next().expect("port PROGRAM [SEED] [CALLS]");
-    let mut numbers = words.map(|word| word.parse().expect("port PROGRAM [SEED] [CALLS]"));
-    let mut random = Random::new(numbers.next().unwrap_or(1));
-    let mut left = numbers.next().unwrap_or(1_000_000) as usize;
+    let program = words.next().expect(USAGE);
+    let mut number = |otherwise| words.next().map_or(otherwise, |word| word.parse().expect(USAGE));
+    let mut random = Random::new(number(1));
+    let mut left = number(1_000_000) as usize;
+    let words: Vec<String> = words.collect();
     let mut tally = Tally::default();
     while left > 0 {
         let cases: Vec<Vec<Call>> = (0..BATCH.min(left)).map(|_| case(&mut random)).collect();
         left -= cases.len();
-        if !check_batch(&program, &cases, &mut tally) {
+        if !check_batch((&program, &words), &cases, &mut tally) {
             left = 0;
         }
     }

@@ -4,7 +4,9 @@ use Prim.Native.Nat.{_-_, _≤_}
 use mathlib.Core.Path.{_≡_, refl}
 use native.Mathlib.Omega.{arith}
 use lib.ListN.{length, drop}
+use borrow.Author.Needs.{needs}
 use Rattle.answers.specs.Reading.{allPrintable}
+use Rattle.answers.proofs.Writing.{few, many}
 use Rattle.answers.proofs.Framing.{data-long, data-more, data-below, data-above, data-good}
 use Rattle.answers.proofs.good_data.Statement.{statement}
 use Rattle.answers.proofs.good_data.Tie as tie
@@ -18,17 +20,17 @@ abbrev μ-loop : tie.MeasureT-loop
 returns-2 : tie.Need-returns-2 Inv-loop μ-loop
 returns-2 c =
     let here = c .before .before in
-    data-below _ _ (here .before .before .if1 .left) (here .before .loop .inv .1) (here .loop-test .taken) (c .if2 .taken)
+    data-below _ _ (few (here .before .before .before .too-long .ensures) (here .before .before .if1 .left)) (here .before .loop .inv .1) (here .loop-test .taken) (c .if2 .taken)
 
 returns-3 : tie.Need-returns-3 Inv-loop μ-loop
 returns-3 c =
     let here = c .before .before .before in
-    data-above _ _ (here .before .before .if1 .left) (here .before .loop .inv .1) (here .loop-test .taken) (c .before .if2 .left) (c .if3 .taken)
+    data-above _ _ (few (here .before .before .before .too-long .ensures) (here .before .before .if1 .left)) (here .before .loop .inv .1) (here .loop-test .taken) (c .before .if2 .left) (c .if3 .taken)
 
 loop-again : tie.Need-loop-again Inv-loop μ-loop
 loop-again c =
     let here = c .before .before .before in
-    (omega arith, data-more _ _ (here .before .before .if1 .left) (here .before .loop .inv .1) (here .loop-test .taken) (c .before .if2 .left) (c .if3 .left))
+    (omega arith, data-more _ _ (few (here .before .before .before .too-long .ensures) (here .before .before .if1 .left)) (here .before .loop .inv .1) (here .loop-test .taken) (c .before .if2 .left) (c .if3 .left))
 
 pub good-data-spec : {M : Type 1} → statement M
 good-data-spec =
@@ -36,7 +38,8 @@ good-data-spec =
     (tie.spec
     Inv-loop
     μ-loop
-    (λ c. data-long _ (c .if1 .taken))
+    (λ c κs. search needs)
+    (λ c. data-long _ (many (c .before .too-long .ensures) (c .if1 .taken)))
     (λ c. (omega arith, refl))
     (λ c. omega arith)
     returns-2
@@ -44,4 +47,4 @@ good-data-spec =
     (λ c. omega arith)
     (λ c. omega arith)
     loop-again
-    (λ c. data-good _ _ (c .before .before .if1 .left) (c .before .loop .inv .1) (c .loop-test .left)))
+    (λ c. data-good _ _ (few (c .before .before .before .too-long .ensures) (c .before .before .if1 .left)) (c .before .loop .inv .1) (c .loop-test .left)))

@@ -1,3 +1,0 @@
-pub mod BodyLaws
-pub mod TurnLaws
-pub mod SpeedLaws

@@ -1,4 +1,0 @@
-pub mod Bodies
-pub mod Turns
-pub mod Speed
-pub mod Claims
