@@ -97,6 +97,19 @@ pub fn status(idle: bool, code: u8) -> u8
     }
 }
 
+// Whether a packet may have this status: bit 6 is set, bits 7 and 4 are clear.
+pub fn good_status(status: u8) -> bool
+    ensures { λ r. ⌜ r ≡ goodStatus status ⌝ }
+{
+    if status / BIT_7 % 2 == 1 {
+        return false;
+    }
+    if status / BIT_4 % 2 == 1 {
+        return false;
+    }
+    status / BIT_6 % 2 == 1
+}
+
 // The length of the packet, which is written at the front of the buffer; or that it does not fit, and nothing is written.
 pub fn write_packet(buffer: &mut [u8], status: u8, data: &[u8]) -> Written
     ensures { λ r. ⌜ PacketIs (now (buffer .entry)) status (now («data» .entry)) r (now (buffer .exit)) ⌝ }
@@ -248,19 +261,6 @@ fn oem_framed(packet: &[u8]) -> bool
         return false;
     }
     packet[end + 1] == checksum::sum(&packet[0..end + 1])
-}
-
-// Whether bit 6 of a status is set, and bits 7 and 4 are clear.
-fn good_status(status: u8) -> bool
-    ensures { λ r. ⌜ r ≡ goodStatus status ⌝ }
-{
-    if status / BIT_7 % 2 == 1 {
-        return false;
-    }
-    if status / BIT_4 % 2 == 1 {
-        return false;
-    }
-    status / BIT_6 % 2 == 1
 }
 
 // Whether a packet may have these bytes as data: at most 256, of 20 to 7E hex.

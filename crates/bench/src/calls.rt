@@ -1,7 +1,8 @@
-// The operations that need no unit: `line`, `text`, `read`, `count`, `ramp`, `write`.
+// The operations that need no unit: `line`, `text`, `read`, `count`, `listen`, `ramp`, `write`.
 use crate::fields;
 use crate::forms;
 use crate::forms::Task;
+use crate::heard;
 use crate::list;
 use crate::telling;
 use answers::Found;
@@ -21,6 +22,7 @@ pub(crate) fn ask(t: Task, given: &[u8], image: &[u8], buffer: &mut [u8]) {
         forms::TEXT => telling::say(forms::TEXT, lines::check_text(given) as u64, 0, 0, 0),
         forms::READ => tell_packet(given),
         forms::COUNT => tell_count(forecast::count(given)),
+        forms::LISTEN => heard::tell(given),
         forms::WRITE => write(t, given, buffer),
         forms::STORE => telling::say_of(forms::STORE, 0, 0, 0, 0, image),
         _ => ask_plain(t, image.len(), buffer),

@@ -11,9 +11,9 @@ use crate::telling;
 const MOST_FIELDS: usize = 4;
 
 // The rows, and the bytes of the table.
-const ROWS: usize = 21;
+const ROWS: usize = 22;
 
-const TABLE_BYTES: usize = 897;
+const TABLE_BYTES: usize = 958;
 
 pub(crate) const TABLE: [u8; TABLE_BYTES] = *b"image HEX : lend these bytes as the image
 image empty : lend the image with all slots empty
@@ -34,6 +34,7 @@ write SLOT RUN LIST : write a line from a list of commands
 read HEX : read an answer packet, OEM where it begins with 02
 oem SEQ TEXT : feed an OEM frame for this unit, with its checksum
 count HEX : count the commands of a body's run
+listen HEX : hear these bytes of the line from a fresh table
 /... : feed a line as it is typed, with a CR
 help : tell the operations";
 
@@ -73,9 +74,11 @@ pub(crate) const OEM: usize = 17;
 
 pub(crate) const COUNT: usize = 18;
 
-pub(crate) const TYPED: usize = 19;
+pub(crate) const LISTEN: usize = 19;
 
-pub(crate) const HELP: usize = 20;
+pub(crate) const TYPED: usize = 20;
+
+pub(crate) const HELP: usize = 21;
 
 // The names of fields that are no numbers, and the end of a form.
 const KINDS: [u8; 35] = *b"HEX \nRUN \nSLOT \nSEQ \nTEXT \nLIST \n: ";

@@ -73,6 +73,7 @@ fn is_hex(row: usize) -> bool {
         forms::TEXT => true,
         forms::READ => true,
         forms::COUNT => true,
+        forms::LISTEN => true,
         _ => false,
     }
 }

@@ -4,6 +4,7 @@ mod course;
 mod fields;
 mod forms;
 mod giving;
+mod heard;
 mod input;
 mod list;
 mod state;

@@ -11,13 +11,13 @@ use libc::STDOUT_FILENO;
 const MOST_NUMBERS: usize = 18;
 
 // The rows past those of the operations, which stand in the order of their forms.
-pub(crate) const NO_UNIT: usize = 21;
+pub(crate) const NO_UNIT: usize = 22;
 
-pub(crate) const REASON: usize = 22;
+pub(crate) const REASON: usize = 23;
 
-pub(crate) const TURN_LINE: usize = 23;
+pub(crate) const TURN_LINE: usize = 24;
 
-const ROWS_BYTES: usize = 1187;
+const ROWS_BYTES: usize = 1195;
 
 const ROWS: [u8; ROWS_BYTES] = *b"image #
 image #
@@ -38,6 +38,7 @@ text [bad|ok]
 [packet ~ *|refused packet]
 [-_|refused buffer_|refused image-length_|idle #|busy #][| $]
 [count #|refused letter_|refused count_|refused #][| #]
+heard $
 [-_|refused buffer_|refused image-length_|idle #|busy #][| $]
 $
 no unit
@@ -133,7 +134,7 @@ fn add_mark(out: &mut [u8], at: usize, mark: u8, n: u64, bytes: &[u8]) -> usize 
 }
 
 // The place past a text put at a place; where there is no room for it, the place itself.
-fn add(out: &mut [u8], at: usize, text: &[u8]) -> usize {
+pub(crate) fn add(out: &mut [u8], at: usize, text: &[u8]) -> usize {
     if out.len() < at {
         return at;
     }

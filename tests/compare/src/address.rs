@@ -16,6 +16,14 @@ pub fn reach(address: u8, unit: u8) -> Option<Reach> {
     named.then_some(if count == 1 { Reach::Alone } else { Reach::Group })
 }
 
+/// The one unit that an address byte names, if it names one alone.
+pub fn alone(address: u8) -> Option<u8> {
+    match addressed(address)? {
+        (unit, 1) => Some(unit),
+        _ => None,
+    }
+}
+
 /// The first unit that an address byte names, and how many.
 ///
 /// "Units 1 to 16 are bytes 31 to 40 hex. Pairs are `A C E G I K M O` (units

@@ -8,6 +8,7 @@ use crate::course::{self, End};
 use crate::host::{self, HostRefusal, Item};
 use crate::image;
 use crate::line;
+use crate::listen::Table;
 use crate::packet::{self, Packet};
 use crate::ramp::{self, Length, RampRefusal};
 use crate::turn::TurnRefusal;
@@ -49,6 +50,7 @@ write SLOT RUN LIST : write a line from a list of commands
 read HEX : read an answer packet, OEM where it begins with 02
 oem SEQ TEXT : feed an OEM frame for this unit, with its checksum
 count HEX : count the commands of a body's run
+listen HEX : hear these bytes of the line from a fresh table
 /... : feed a line as it is typed, with a CR
 help : tell the operations";
 
@@ -136,6 +138,7 @@ impl Bench {
             b"write" => self.write(fields.ok_or(MISSING)?, out),
             b"read" => self.read(only(fields)?, out),
             b"count" => self.count(only(fields)?, out),
+            b"listen" => self.listen(only(fields)?, out),
             b"oem" => self.oem(fields.ok_or(MISSING)?, out),
             _ => Err(Unreadable("no such operation")),
         }
@@ -328,6 +331,13 @@ impl Bench {
             Err(Uncounted::Letter) => say!(out, "refused letter"),
             Err(Uncounted::Count) => say!(out, "refused count"),
         }
+        Ok(())
+    }
+
+    /// "`heard ` and the sixteen lines joined by `; `"
+    fn listen(&mut self, field: &[u8], out: &mut Vec<u8>) -> Answered {
+        read_hex(field, &mut self.bytes)?;
+        say!(out, "heard {}", Table::of(&self.bytes).lines().join("; "));
         Ok(())
     }
 

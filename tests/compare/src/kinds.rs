@@ -9,6 +9,7 @@ use crate::command::{Command, DIGITS};
 use crate::digits;
 use crate::handed::Handed;
 use crate::image::{self, Image, SLOTS};
+use crate::overheard;
 use crate::speed;
 use crate::turn::{Leg, Wait};
 use crate::unit::Unit;
@@ -165,12 +166,15 @@ const ANSWERS: &[&str] = &[
     "read: packet",
     "read: packet with data",
     "read: refused packet",
+    "listen: silence",
+    "listen: frames",
+    "listen: frames and answers",
 ];
 
 /// The words of the operations; each can be unreadable.
 const WORDS: &[&str] = &[
     "image", "room", "buffer", "start", "feed", "turn", "run", "timeline", "unit", "store", "line", "text",
-    "ramp", "write", "read", "oem", "count", "help", "other",
+    "ramp", "write", "read", "oem", "count", "listen", "help", "other",
 ];
 
 /// Every kind that [`of_event`] names.
@@ -268,7 +272,8 @@ pub fn all() -> Vec<String> {
     let faults =
         ["line", "frame"].iter().flat_map(|word| causes::NAMES.iter().map(move |name| fault(word, name)));
     let digits = digits::NAMES.iter().map(|name| format!("digits: {name}"));
-    answers.chain(unreadable).chain(events).chain(faults).chain(digits).collect()
+    let heard = overheard::NAMES.iter().map(|name| format!("heard: {name}"));
+    answers.chain(unreadable).chain(events).chain(faults).chain(digits).chain(heard).collect()
 }
 
 /// The kind of an operation and its answer, as [`all`] names it.
@@ -323,6 +328,7 @@ fn short(word: &str, operation: &str, answer: &str) -> String {
         }
         ("write", ["wrote", "-"]) => "wrote nothing".to_string(),
         ("write", ["wrote", _]) => "wrote".to_string(),
+        ("listen", ["heard", lines @ ..]) => table_kind(lines).to_string(),
         ("read", ["packet", _, "-"]) => "packet".to_string(),
         ("read", ["packet", ..]) => "packet with data".to_string(),
         _ => answer.to_string(),
@@ -344,6 +350,23 @@ fn packet_kind(hex: &str) -> String {
     let (framing, empty) = if hex.starts_with("02") { ("oem ", 10) } else { ("", 12) };
     let data = if hex.len() > empty { " with data" } else { "" };
     format!("{framing}{state} {}{data}", status & 15)
+}
+
+/// Whether a table has frames, and answers to them.
+fn table_kind(fields: &[&str]) -> &'static str {
+    let some = |place: usize| fields.chunks(4).any(|line| line.get(place).is_some_and(|&count| count != "0"));
+    match (some(1), some(2)) {
+        (false, _) => "silence",
+        (true, false) => "frames",
+        (true, true) => "frames and answers",
+    }
+}
+
+/// The kinds of what occurs in the bytes of `listen`, as [`all`] names them.
+pub fn of_heard(operation: &[u8]) -> Vec<String> {
+    let operation = operation.strip_suffix(b"\r").unwrap_or(operation);
+    let bytes = operation.strip_prefix(b"listen ").and_then(read_hex_field);
+    bytes.iter().flat_map(|bytes| overheard::names(bytes)).map(|name| format!("heard: {name}")).collect()
 }
 
 /// The kind of a refused body, from `line` or a frame.
@@ -692,6 +715,9 @@ mod tests {
             ("ramp 1 1 endless", "ramp 1 0 0 0 0", "ramp: endless"),
             ("write - -", "wrote -", "write: wrote nothing"),
             ("read -", "refused packet", "read: refused packet"),
+            ("listen -", "heard 1 0 0 --; 2 0 0 --", "listen: silence"),
+            ("listen 2f310d", "heard 1 1 0 --; 2 0 0 --", "listen: frames"),
+            ("listen 2f310d", "heard 1 0 0 --; 2 10 10 60", "listen: frames and answers"),
             ("unit", "unit idle code=0", "unit: idle"),
         ] {
             let found = of_answer(operation.as_bytes(), answer.as_bytes());

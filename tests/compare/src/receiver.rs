@@ -20,9 +20,9 @@ pub enum Framing {
 }
 
 /// Begins an OEM frame.
-const START: u8 = 0x02;
+pub(crate) const START: u8 = 0x02;
 /// Ends the body of an OEM frame.
-const END: u8 = 0x03;
+pub(crate) const END: u8 = 0x03;
 
 /// A frame for this unit that was ended: how it came, and how it was framed.
 pub type Frame = (Reach, Framing);

@@ -1,11 +1,13 @@
 //! Random scripts in the bench's language, the same for the same seed.
 
+mod bus;
 mod endless;
 mod faulty;
 mod lines;
 mod rare;
 mod script;
 
+pub use bus::Bus;
 pub use lines::Lines;
 pub use rare::Rare;
 pub use script::{Round, Step};

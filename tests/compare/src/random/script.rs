@@ -7,7 +7,7 @@ use crate::bench::{with_hex, Bench, LONGEST_IMAGE};
 use crate::image::{self, IMAGE};
 use crate::kinds::{self, Glance};
 use crate::packet::{checksum, PACKET};
-use crate::random::{Lines, Random, Rare};
+use crate::random::{Bus, Lines, Random, Rare};
 use crate::turn::{Leg, Wait};
 use crate::unit::Unit;
 
@@ -176,6 +176,8 @@ pub struct Round {
     /// How many operations the script still has.
     left: usize,
     fresh: bool,
+    /// Puts `listen` between the operations.
+    bus: Bus,
 }
 
 /// What to send next.
@@ -231,11 +233,15 @@ impl Round {
             number: 1,
             left,
             fresh: true,
+            bus: Bus::new(seed),
         }
     }
 
     /// The next operation, done on the model.
     pub fn step(&mut self) -> Step {
+        if let Some(operation) = self.bus.overheard().filter(|_| !self.fresh) {
+            return self.listen(operation);
+        }
         let begins = std::mem::take(&mut self.fresh) || (self.queue.is_empty() && self.left == 0);
         let mut operation = if begins && self.left == 0 { self.begin_script() } else { self.next() };
         self.change_form(&mut operation);
@@ -250,6 +256,15 @@ impl Round {
         events.extend(kinds::of_digits(&operation, &kind, before, &self.bench));
         events.extend(kinds::of_event(&operation, &answer, before, after));
         Step { operation, answer, begins, kind, events }
+    }
+
+    /// Listens, which changes nothing, so that it may stand anywhere.
+    fn listen(&mut self, operation: Vec<u8>) -> Step {
+        let mut answer = Vec::new();
+        self.bench.answer(&operation, &mut answer);
+        let kind = kinds::of_answer(&operation, &answer);
+        let events = kinds::of_heard(&operation);
+        Step { operation, answer, begins: false, kind, events }
     }
 
     /// At times writes the same operation in another form: upper-case digits,

@@ -208,7 +208,7 @@ ran 8 idle 1";
 #[test]
 fn help() {
     let lines = answers(&["help"]).concat();
-    assert_eq!(lines.lines().count(), 21);
+    assert_eq!(lines.lines().count(), 22);
     assert!(lines.lines().all(|line| line.contains(" : ")));
 }
 

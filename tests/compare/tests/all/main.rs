@@ -4,6 +4,7 @@ mod bench;
 mod digits;
 mod edges;
 mod frames;
+mod listen;
 mod places;
 mod program;
 mod rig;

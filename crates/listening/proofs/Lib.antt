@@ -1,0 +1,10 @@
+pub mod Lining
+pub mod Noting
+pub mod Guard
+pub mod Loan
+pub mod Places
+pub mod Cuts
+pub mod Growing
+pub mod Answering
+pub mod Beside
+pub mod Story

@@ -1,0 +1,58 @@
+-- `listening::take` meets its contract: each arm is the definition's clause.
+-- Assumes nothing.
+use borrow.Author.Needs.{needs}
+use Rattle.listening.proofs.take.Statement.{statement}
+use Rattle.listening.proofs.take.Tie as tie
+
+pub take-spec : {M : Type 1} → statement M
+take-spec =
+    tie.close
+    (tie.spec
+    (λ c. search needs)
+    (λ c κs. search needs)
+    (λ c. search needs)
+    (λ c κs. search needs)
+    (λ c κs. search needs)
+    (λ c. search needs)
+    (λ c κs. search needs)
+    (λ c. search needs)
+    (λ c κs. search needs)
+    (λ c κs. search needs)
+    (λ c. search needs)
+    (λ c κs. search needs)
+    (λ c κs. search needs)
+    (λ c. search needs)
+    (λ c κs. search needs)
+    (λ c. search needs)
+    (λ c κs. search needs)
+    (λ c κs. search needs)
+    (λ c. search needs)
+    (λ c κs. search needs)
+    (λ c κs. search needs)
+    (λ c κs. search needs)
+    (λ c. search needs)
+    (λ c κs. search needs)
+    (λ c κs. search needs)
+    (λ c κs. search needs)
+    (λ c. search needs)
+    (λ c κs. search needs)
+    (λ c κs. search needs)
+    (λ c κs. search needs)
+    (λ c. search needs)
+    (λ c κs. search needs)
+    (λ c κs. search needs)
+    (λ c κs. search needs)
+    (λ c. search needs)
+    (λ c κs. search needs)
+    (λ c. simp (c .stand .ensures, c .before .enum-told .given .1))
+    (λ c. simp (c .stand2 .ensures, c .before .in-address .ensures, c .before .before .enum-told2 .given .1))
+    (λ c. simp (c .end-at .ensures, c .before .before .spot .given .1))
+    (λ c. simp (c .stand3 .ensures, c .before .in-status .ensures, c .before .before .enum-told3 .given .1))
+    (λ c. simp (c .stand4 .ensures, c .before .in-data .ensures, c .before .before .before .spot2 .given .1))
+    (λ c. simp (c .end-at2 .ensures, c .before .before .spot3 .given .1))
+    (λ c. simp (c .stand5 .ensures, c .before .in-oem-address .ensures, c .before .before .enum-told4 .given .1))
+    (λ c. simp (c .stand6 .ensures, c .before .in-oem-sequence .ensures, c .before .before .with-byte .ensures, c .before .before .before .before .spot4 .given .1))
+    (λ c. simp (c .stand7 .ensures, c .before .in-oem-body .ensures, c .before .before .with-byte2 .ensures, c .before .before .before .before .spot5 .given .1))
+    (λ c. simp (c .stand8 .ensures, c .before .in-oem-status .ensures, c .before .before .with-byte3 .ensures, c .before .before .before .before .spot6 .given .1))
+    (λ c. simp (c .stand9 .ensures, c .before .in-oem-data .ensures, c .before .before .with-byte4 .ensures, c .before .before .before .before .spot7 .given .1))
+    (λ c. simp (c .end-at3 .ensures, c .before .before .spot8 .given .1)))
