@@ -1,4 +1,4 @@
-// The operations that need no unit: `line`, `text`, `read`, `count`, `listen`, `ramp`, `write`.
+// The operations that need no unit: `line`, `text`, `read`, `count`, `listen`, `older`, `newer`, `ramp`, `write`.
 use crate::fields;
 use crate::forms;
 use crate::forms::Task;
@@ -11,8 +11,14 @@ use commands::Fault;
 use forecast::Counted;
 use host::LineWritten;
 use lines::Slot;
+use older::Refusal;
+use older::Translated;
+use older::Why;
 use ramp::Figures;
 use ramp::Verdict;
+
+// The longest text of the older drive: 25 commands of eleven bytes.
+const TEXT_MOST: usize = 275;
 
 // Tells the answer to an operation that leaves the unit as it is.
 pub(crate) fn ask(t: Task, given: &[u8], image: &[u8], buffer: &mut [u8]) {
@@ -23,6 +29,8 @@ pub(crate) fn ask(t: Task, given: &[u8], image: &[u8], buffer: &mut [u8]) {
         forms::READ => tell_packet(given),
         forms::COUNT => tell_count(forecast::count(given)),
         forms::LISTEN => heard::tell(given),
+        forms::OLDER => translate(forms::OLDER, given),
+        forms::NEWER => translate(forms::NEWER, given),
         forms::WRITE => write(t, given, buffer),
         forms::STORE => telling::say_of(forms::STORE, 0, 0, 0, 0, image),
         _ => ask_plain(t, image.len(), buffer),
@@ -91,6 +99,39 @@ fn tell_count(counted: Counted) {
         Counted::Letter => telling::say(forms::COUNT, 1, 0, 0, 0),
         Counted::TooMany => telling::say(forms::COUNT, 2, 0, 0, 0),
         Counted::Refused(f) => tell_fault(forms::COUNT, 3, f),
+    }
+}
+
+// `older HEX`, `newer HEX`: a text of one drive on the other.
+fn translate(row: usize, text: &[u8]) {
+    let mut out = [0u8; TEXT_MOST];
+    if row == forms::OLDER {
+        let read = older::into_ours(text, &mut out);
+        return tell_translated(row, read, &out);
+    }
+    let written = older::for_older(text, &mut out);
+    tell_translated(row, written, &out);
+}
+
+// The text and whether a ramp was slowed, or why there is none and where.
+fn tell_translated(row: usize, translated: Translated, out: &[u8]) {
+    match translated {
+        Translated::Text(n, slowed) => {
+            telling::say_of(row, 0, slowed as u64, 0, 0, parts::first(out, n))
+        }
+        Translated::Refused(r) => telling::say(row, why_of(r), r.place as u64, 0, 0),
+        Translated::NoRoom => telling::say(row, 5, 0, 0, 0),
+    }
+}
+
+// The number of a refusal among those of its row.
+fn why_of(r: Refusal) -> u64 {
+    let why = r.why;
+    match why {
+        Why::BadLetter => 1,
+        Why::BadOperand => 2,
+        Why::BadStructure => 3,
+        Why::PastMost => 4,
     }
 }
 

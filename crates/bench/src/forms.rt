@@ -11,9 +11,9 @@ use crate::telling;
 const MOST_FIELDS: usize = 4;
 
 // The rows, and the bytes of the table.
-const ROWS: usize = 22;
+const ROWS: usize = 24;
 
-const TABLE_BYTES: usize = 958;
+const TABLE_BYTES: usize = 1069;
 
 pub(crate) const TABLE: [u8; TABLE_BYTES] = *b"image HEX : lend these bytes as the image
 image empty : lend the image with all slots empty
@@ -35,6 +35,8 @@ read HEX : read an answer packet, OEM where it begins with 02
 oem SEQ TEXT : feed an OEM frame for this unit, with its checksum
 count HEX : count the commands of a body's run
 listen HEX : hear these bytes of the line from a fresh table
+older HEX : read a text of the older drive into ours
+newer HEX : write a text of ours back for the older drive
 /... : feed a line as it is typed, with a CR
 help : tell the operations";
 
@@ -76,9 +78,13 @@ pub(crate) const COUNT: usize = 18;
 
 pub(crate) const LISTEN: usize = 19;
 
-pub(crate) const TYPED: usize = 20;
+pub(crate) const OLDER: usize = 20;
 
-pub(crate) const HELP: usize = 21;
+pub(crate) const NEWER: usize = 21;
+
+pub(crate) const TYPED: usize = 22;
+
+pub(crate) const HELP: usize = 23;
 
 // The names of fields that are no numbers, and the end of a form.
 const KINDS: [u8; 35] = *b"HEX \nRUN \nSLOT \nSEQ \nTEXT \nLIST \n: ";

@@ -74,6 +74,8 @@ fn is_hex(row: usize) -> bool {
         forms::READ => true,
         forms::COUNT => true,
         forms::LISTEN => true,
+        forms::OLDER => true,
+        forms::NEWER => true,
         _ => false,
     }
 }

@@ -11,13 +11,13 @@ use libc::STDOUT_FILENO;
 const MOST_NUMBERS: usize = 18;
 
 // The rows past those of the operations, which stand in the order of their forms.
-pub(crate) const NO_UNIT: usize = 22;
+pub(crate) const NO_UNIT: usize = 24;
 
-pub(crate) const REASON: usize = 23;
+pub(crate) const REASON: usize = 25;
 
-pub(crate) const TURN_LINE: usize = 24;
+pub(crate) const TURN_LINE: usize = 26;
 
-const ROWS_BYTES: usize = 1195;
+const ROWS_BYTES: usize = 1411;
 
 const ROWS: [u8; ROWS_BYTES] = *b"image #
 image #
@@ -39,6 +39,8 @@ text [bad|ok]
 [-_|refused buffer_|refused image-length_|idle #|busy #][| $]
 [count #|refused letter_|refused count_|refused #][| #]
 heard $
+[older * slowed=#|refused letter #|refused operand #|refused structure #|refused commands #|refused buffer]
+[newer * slowed=#|refused letter #|refused operand #|refused structure #|refused commands #|refused buffer]
 [-_|refused buffer_|refused image-length_|idle #|busy #][| $]
 $
 no unit

@@ -14,6 +14,9 @@ use Rattle.answers.specs.Oem.{OemPacketIs}
 use Rattle.lines.specs.Lists.{HostList}
 use Rattle.host.specs.declared.LineWritten.{LineWritten}
 use Rattle.host.specs.Host.{LineIs}
+use Rattle.older.specs.declared.Way.{Way}
+use Rattle.older.specs.declared.Translated.{Translated}
+use Rattle.older.specs.Items.{TranslatedIs}
 use Rattle.frames.specs.declared.Progress.{Progress}
 use Rattle.frames.specs.declared.Heard.{Heard}
 use Rattle.frames.specs.Receive.{receiverOf, heardWith, receiveOf}
@@ -43,6 +46,8 @@ pub record OneAnswer : Type 0 where
   pub oem-packet : (buffer : List ℕ) (status : ℕ) (bytes : List ℕ) → Once {A = Written} (OemPacketIs buffer status bytes)
   -- `host::write_line`
   pub line : (l : HostList) (count : ℕ) (buffer : List ℕ) → Once {A = LineWritten} (LineIs l count buffer)
+  -- `older::into_ours`, `older::for_older`
+  pub translated : (w : Way) (text buffer : List ℕ) → Once {A = Translated} (TranslatedIs w text buffer)
   -- `frames::receive`: the body
   pub heard : (p : Progress) (body : List ℕ) (unit : ℕ) (bytes : List ℕ)
       → Once {A = Heard} (λ h body′. heardWith h body′ ≡ receiveOf (receiverOf p body) unit bytes)

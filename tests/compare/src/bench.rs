@@ -9,8 +9,10 @@ use crate::host::{self, HostRefusal, Item};
 use crate::image;
 use crate::line;
 use crate::listen::Table;
+use crate::older;
 use crate::packet::{self, Packet};
 use crate::ramp::{self, Length, RampRefusal};
+use crate::shared::Way;
 use crate::turn::TurnRefusal;
 use crate::unit::{FeedRefusal, StartRefusal, Unit};
 
@@ -51,6 +53,8 @@ read HEX : read an answer packet, OEM where it begins with 02
 oem SEQ TEXT : feed an OEM frame for this unit, with its checksum
 count HEX : count the commands of a body's run
 listen HEX : hear these bytes of the line from a fresh table
+older HEX : read a text of the older drive into ours
+newer HEX : write a text of ours back for the older drive
 /... : feed a line as it is typed, with a CR
 help : tell the operations";
 
@@ -139,6 +143,8 @@ impl Bench {
             b"read" => self.read(only(fields)?, out),
             b"count" => self.count(only(fields)?, out),
             b"listen" => self.listen(only(fields)?, out),
+            b"older" => self.turn_text("older", Way::Inward, only(fields)?, out),
+            b"newer" => self.turn_text("newer", Way::Outward, only(fields)?, out),
             b"oem" => self.oem(fields.ok_or(MISSING)?, out),
             _ => Err(Unreadable("no such operation")),
         }
@@ -338,6 +344,19 @@ impl Bench {
     fn listen(&mut self, field: &[u8], out: &mut Vec<u8>) -> Answered {
         read_hex(field, &mut self.bytes)?;
         say!(out, "heard {}", Table::of(&self.bytes).lines().join("; "));
+        Ok(())
+    }
+
+    /// "`older HEX slowed=0|1`, `newer HEX slowed=0|1`"
+    fn turn_text(&mut self, word: &str, way: Way, field: &[u8], out: &mut Vec<u8>) -> Answered {
+        read_hex(field, &mut self.bytes)?;
+        match older::turned(&self.bytes, way) {
+            Ok(turned) => {
+                tell_bytes(word, turned.text.as_bytes(), out);
+                say!(out, " slowed={}", u8::from(turned.slowed));
+            }
+            Err(fault) => say!(out, "refused {fault}"),
+        }
         Ok(())
     }
 

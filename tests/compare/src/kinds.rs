@@ -6,6 +6,7 @@ use std::collections::BTreeMap;
 use crate::bench::{read_hex_field, Bench};
 use crate::causes;
 use crate::command::{Command, DIGITS};
+use crate::crossed;
 use crate::digits;
 use crate::handed::Handed;
 use crate::image::{self, Image, SLOTS};
@@ -169,12 +170,26 @@ const ANSWERS: &[&str] = &[
     "listen: silence",
     "listen: frames",
     "listen: frames and answers",
+    "older: nothing",
+    "older: slowed=0",
+    "older: slowed=1",
+    "older: refused letter",
+    "older: refused operand",
+    "older: refused structure",
+    "older: refused commands",
+    "newer: nothing",
+    "newer: slowed=0",
+    "newer: slowed=1",
+    "newer: refused letter",
+    "newer: refused operand",
+    "newer: refused structure",
+    "newer: refused commands",
 ];
 
 /// The words of the operations; each can be unreadable.
 const WORDS: &[&str] = &[
     "image", "room", "buffer", "start", "feed", "turn", "run", "timeline", "unit", "store", "line", "text",
-    "ramp", "write", "read", "oem", "count", "listen", "help", "other",
+    "ramp", "write", "read", "oem", "count", "listen", "older", "newer", "help", "other",
 ];
 
 /// Every kind that [`of_event`] names.
@@ -273,7 +288,8 @@ pub fn all() -> Vec<String> {
         ["line", "frame"].iter().flat_map(|word| causes::NAMES.iter().map(move |name| fault(word, name)));
     let digits = digits::NAMES.iter().map(|name| format!("digits: {name}"));
     let heard = overheard::NAMES.iter().map(|name| format!("heard: {name}"));
-    answers.chain(unreadable).chain(events).chain(faults).chain(digits).chain(heard).collect()
+    let crossed = crossed::all().into_iter().map(|name| format!("crossed: {name}"));
+    answers.chain(unreadable).chain(events).chain(faults).chain(digits).chain(heard).chain(crossed).collect()
 }
 
 /// The kind of an operation and its answer, as [`all`] names it.
@@ -329,6 +345,9 @@ fn short(word: &str, operation: &str, answer: &str) -> String {
         ("write", ["wrote", "-"]) => "wrote nothing".to_string(),
         ("write", ["wrote", _]) => "wrote".to_string(),
         ("listen", ["heard", lines @ ..]) => table_kind(lines).to_string(),
+        ("older" | "newer", ["refused", why, _]) => format!("refused {why}"),
+        ("older" | "newer", [_, "-", "slowed=0"]) => "nothing".to_string(),
+        ("older" | "newer", [_, _, slowed]) => slowed.to_string(),
         ("read", ["packet", _, "-"]) => "packet".to_string(),
         ("read", ["packet", ..]) => "packet with data".to_string(),
         _ => answer.to_string(),
@@ -367,6 +386,17 @@ pub fn of_heard(operation: &[u8]) -> Vec<String> {
     let operation = operation.strip_suffix(b"\r").unwrap_or(operation);
     let bytes = operation.strip_prefix(b"listen ").and_then(read_hex_field);
     bytes.iter().flat_map(|bytes| overheard::names(bytes)).map(|name| format!("heard: {name}")).collect()
+}
+
+/// The kinds of what occurs in the text of `older` or `newer`, as [`all`] names
+/// them.
+pub fn of_crossed(operation: &[u8]) -> Vec<String> {
+    let operation = operation.strip_suffix(b"\r").unwrap_or(operation);
+    let names = |(word, way)| {
+        let hex = operation.strip_prefix(format!("{word} ").as_bytes())?;
+        Some(crossed::names(word, way, &read_hex_field(hex)?))
+    };
+    crossed::WAYS.into_iter().filter_map(names).flatten().map(|name| format!("crossed: {name}")).collect()
 }
 
 /// The kind of a refused body, from `line` or a frame.
@@ -718,6 +748,9 @@ mod tests {
             ("listen -", "heard 1 0 0 --; 2 0 0 --", "listen: silence"),
             ("listen 2f310d", "heard 1 1 0 --; 2 0 0 --", "listen: frames"),
             ("listen 2f310d", "heard 1 0 0 --; 2 10 10 60", "listen: frames and answers"),
+            ("older -", "older - slowed=0", "older: nothing"),
+            ("older 4c31", "older 4c31 slowed=1", "older: slowed=1"),
+            ("newer 41", "refused operand 1", "newer: refused operand"),
             ("unit", "unit idle code=0", "unit: idle"),
         ] {
             let found = of_answer(operation.as_bytes(), answer.as_bytes());

@@ -152,7 +152,8 @@ fn simpler(operation: &[u8]) -> Vec<Vec<u8>> {
     let word = fields.remove(0);
     match (word, &fields[..]) {
         (b"image", [hex]) => simpler_image(hex),
-        (b"feed" | b"line" | b"text" | b"read" | b"count" | b"listen", [hex]) => simpler_bytes(word, hex),
+        (b"feed" | b"line" | b"text" | b"read" | b"count", [hex]) => simpler_bytes(word, hex),
+        (b"listen" | b"older" | b"newer", [hex]) => simpler_bytes(word, hex),
         (b"write", [slot, run, list @ ..]) => simpler_list(slot, run, list),
         (b"oem", [sequence, text @ ..]) => simpler_oem(sequence, &text.join(&b' ')),
         _ => simpler_numbers(word, &fields),

@@ -5,6 +5,7 @@ use Rattle.digits.proofs.Writing.{written-once}
 use Rattle.image.proofs.CallLaws.{stored-once, cleared-once}
 use Rattle.answers.proofs.Writing.{packet-once}
 use Rattle.host.proofs.LineLaws.{line-once}
+use Rattle.older.proofs.TranslateLaws.{translated-once}
 use Rattle.frames.proofs.Once.{heard-once}
 use Rattle.drive.proofs.OnceLaws.{started-once, fed-once, turned-once}
 use Rattle.claims.proofs.one_answer.Statement.{statement}
@@ -20,6 +21,7 @@ returns c =
       packet = λ buffer status bytes r s x y. packet-once;
       oem-packet = λ buffer status bytes r s x y. packet-once;
       line = λ l count buffer r s x y. line-once;
+      translated = λ w text buffer r s x y. translated-once;
       heard = λ p body unit bytes r s x y. heard-once;
       started = λ number image body text d e. started-once d e;
       fed = λ u body text bytes image buffer d e. fed-once d e;

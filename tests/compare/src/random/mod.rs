@@ -4,11 +4,13 @@ mod bus;
 mod endless;
 mod faulty;
 mod lines;
+mod older;
 mod rare;
 mod script;
 
 pub use bus::Bus;
 pub use lines::Lines;
+pub use older::Older;
 pub use rare::Rare;
 pub use script::{Round, Step};
 

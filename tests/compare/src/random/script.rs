@@ -7,7 +7,7 @@ use crate::bench::{with_hex, Bench, LONGEST_IMAGE};
 use crate::image::{self, IMAGE};
 use crate::kinds::{self, Glance};
 use crate::packet::{checksum, PACKET};
-use crate::random::{Bus, Lines, Random, Rare};
+use crate::random::{Bus, Lines, Older, Random, Rare};
 use crate::turn::{Leg, Wait};
 use crate::unit::Unit;
 
@@ -178,6 +178,8 @@ pub struct Round {
     fresh: bool,
     /// Puts `listen` between the operations.
     bus: Bus,
+    /// Puts `older` and `newer` between them.
+    older: Older,
 }
 
 /// What to send next.
@@ -234,13 +236,17 @@ impl Round {
             left,
             fresh: true,
             bus: Bus::new(seed),
+            older: Older::new(seed),
         }
     }
 
     /// The next operation, done on the model.
     pub fn step(&mut self) -> Step {
+        if let Some(operation) = self.older.crossing().filter(|_| !self.fresh) {
+            return self.aside(operation);
+        }
         if let Some(operation) = self.bus.overheard().filter(|_| !self.fresh) {
-            return self.listen(operation);
+            return self.aside(operation);
         }
         let begins = std::mem::take(&mut self.fresh) || (self.queue.is_empty() && self.left == 0);
         let mut operation = if begins && self.left == 0 { self.begin_script() } else { self.next() };
@@ -258,12 +264,14 @@ impl Round {
         Step { operation, answer, begins, kind, events }
     }
 
-    /// Listens, which changes nothing, so that it may stand anywhere.
-    fn listen(&mut self, operation: Vec<u8>) -> Step {
+    /// Listens or turns a text, which changes nothing, so that it may stand
+    /// anywhere.
+    fn aside(&mut self, operation: Vec<u8>) -> Step {
         let mut answer = Vec::new();
         self.bench.answer(&operation, &mut answer);
         let kind = kinds::of_answer(&operation, &answer);
-        let events = kinds::of_heard(&operation);
+        let mut events = kinds::of_heard(&operation);
+        events.extend(kinds::of_crossed(&operation));
         Step { operation, answer, begins: false, kind, events }
     }
 

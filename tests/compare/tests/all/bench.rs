@@ -208,7 +208,7 @@ ran 8 idle 1";
 #[test]
 fn help() {
     let lines = answers(&["help"]).concat();
-    assert_eq!(lines.lines().count(), 22);
+    assert_eq!(lines.lines().count(), 24);
     assert!(lines.lines().all(|line| line.contains(" : ")));
 }
 

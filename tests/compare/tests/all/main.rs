@@ -5,6 +5,7 @@ mod digits;
 mod edges;
 mod frames;
 mod listen;
+mod older;
 mod places;
 mod program;
 mod rig;

@@ -6,10 +6,10 @@ use Rattle.bench.proofs.forms.row_of.Statement.{statement}
 use Rattle.bench.proofs.forms.row_of.Tie as tie
 
 abbrev Inv-loop : tie.InvT-loop
-Inv-loop table word at₀ row₀ at row = row ≤ 22
+Inv-loop table word at₀ row₀ at row = row ≤ 24
 
 abbrev μ-loop : tie.MeasureT-loop
-μ-loop table word at₀ row₀ at row = 22 - row
+μ-loop table word at₀ row₀ at row = 24 - row
 
 loop-holds : tie.Need-loop-holds Inv-loop μ-loop
 loop-holds c = search needs

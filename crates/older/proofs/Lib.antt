@@ -1,0 +1,9 @@
+pub mod CarryLaws
+pub mod ItemLaws
+pub mod PassLaws
+pub mod WriteLaws
+pub mod FitLaws
+pub mod TranslateLaws
+pub mod RampLaws
+pub mod PassedLaws
+pub mod BackLaws
