@@ -3,6 +3,7 @@ ghost use mathlib.Core.Path.{_≡_};
 ghost use mathlib.Core.Bool.{true, cond, _&&_};
 ghost use lib.Dec.{leb, eqb};
 ghost use Prim.Native.Nat.{_≤_};
+ghost use Rattle.parts.specs.Letters.{byte};
 ghost use Rattle.digits.specs.Operand.{operandAt};
 ghost use Rattle.commands.specs.Table.{settingLetter};
 ghost use Rattle.commands.specs.Writing.{inRange};
@@ -183,7 +184,7 @@ pub(crate) fn is_ramp(c: Command) -> bool
 
 // Whether a setting is the acceleration.
 fn is_acceleration(which: Setting) -> bool
-    ensures { λ r. ⌜ r ≡ eqb (settingLetter which) 76 ⌝ }
+    ensures { λ r. ⌜ r ≡ eqb (settingLetter which) (byte "L") ⌝ }
 {
     match which {
         Setting::TopSpeed => false,

@@ -217,7 +217,7 @@ fn what_the_bench_takes() {
     }
     let help = told(b"help");
     assert!(help.contains(
-        "a fresh table\nolder HEX : turn a text of the older drive into ours\n\
-         newer HEX : turn a text of ours into the older drive's\n/... : "
+        "a fresh table\nolder HEX : read a text of the older drive into ours\n\
+         newer HEX : write a text of ours back for the older drive\n/... : "
     ));
 }
