@@ -45,14 +45,13 @@ extern "C" {
 #define DT_TEXT_GOOD 0u
 #define DT_TEXT_BAD 1u
 
-/* An image of the programs, of the one form or the other. */
+/* An image of the programs. */
 #define DT_IMAGE_GOOD 0u
-#define DT_IMAGE_LENGTH 1u  /* it has neither 4160 nor 1024 bytes */
+#define DT_IMAGE_LENGTH 1u  /* it has not 4160 bytes */
 #define DT_IMAGE_BAD 2u     /* an entry, a body or an unused byte breaks the rules. A unit starts all the same on a store of
                              * older firmware in which only operands of more than ten digits do: those programs do not run
                              * (code 1). Store each anew, or clear it: docs/MANUAL.md, "Stored programs" */
 #define DT_IMAGE_BYTES 4160u
-#define DT_SMALL_IMAGE_BYTES 1024u
 
 /* The figures of a ramp, or the first number that is out of its range. */
 #define DT_RAMP_TAKEN 0u

@@ -39,8 +39,6 @@ static void lines(void)
         {"J3R", 0}, {"J4R", 3}, {"b9600b19200b38400R", 0}, {"b9601R", 3}, {"M30000R", 0}, {"M30001R", 3},
         {"j1R", 0}, {"j256R", 0}, {"j3R", 3}, {"j512R", 3}, {"j0R", 3},
         {"H02R", 0}, {"HR", 0}, {"H013R", 3}, {"H2R", 3}, {"H05R", 3}, {"H24R", 3}, {"S02A1R", 0}, {"SA1R", 3},
-        {"n15R", 0}, {"n16R", 3}, {"aC1aC65000R", 0}, {"aC0R", 3}, {"aC65001R", 3}, {"aE1000aE1000000R", 0}, {"aE999R", 3}, {"aE1000001R", 3},
-        {"au1au1000000R", 0}, {"au0R", 3}, {"au1000001R", 3}, {"aCR", 3}, {"axR", 2}, {"aR", 2}, {"a", 2}, {"C5R", 2}, {"rR", 0}, {"r5R", 2}, {"gaC5rG2R", 0},
         {"e15R", 0}, {"e16R", 3}, {"eR", 3}, {"gG30000R", 0}, {"gG30001R", 3}, {"gGR", 0}, {"g5R", 2},
         {"ggggG1G1G1G1R", 0}, {"gggggG1G1G1G1G1R", 2}, {"G1R", 2}, {"gR", 2}, {"gS03G2R", 2}, {"gA0S03e0G0R", 0},
         {"S02", 2}, {"S02gG1R", 2}, {"A1RA2", 2}, {"RR", 2}, {"XX", 2}, {"A1X", 2}, {"A1s2R", 2},
@@ -65,7 +63,6 @@ static void places(void)
         {"s16R", 1}, {"sR", 1}, {"s12A1x", 6}, {"A1G1R", 3}, {"gggggG1G1G1G1G1R", 5}, {"A1gA2", 3}, {"A1S02", 3}, {"S02gG1R", 1},
         {"s1A1A1A1A1A1A1A1A1A1A1A1A1A1A1A1R", 31}, {"s3A1", 5}, {"s3", 3}, {"s0000000003z0000000008", 23}, {"A00000000001R", 1}, {"A1V00000000001R", 3},
         {"gggggGGGGR", 1}, {"ggA1S02G1R", 1}, {"G1gP1R", 1}, {"s1A1A1A1A1A1A1A1A1A1A1A1A1A1A1A1", 31}, {"G1L0R", 3}, {"s12gA5", 4},
-        {"aC0R", 1}, {"A1aC0R", 3}, {"A1axR", 3}, {"aC5aC", 4}, {"r5R", 2}, {"s1aC1aC1aC1aC1aC1aC1aC1aC1aC1aC1aC1aC1aC1aC1aC1R", 45},
     };
     uint8_t body[300];
     for (size_t i = 0; i < sizeof rows / sizeof rows[0]; i++) same(rows[i].body, place(rows[i].body), rows[i].place);
@@ -81,7 +78,7 @@ static void counts(void)
 {
     static const struct { const char *body; uint64_t count; } rows[] = {
         {"", 0}, {"R", 0}, {"X", 0}, {"T", 0}, {"?0", 0}, {"s3R", 0}, {"gP5gD1G2G3", 22}, {"gP5gD1G2G3R", 22}, {"s3gP5gD1G2G3R", 22},
-        {"gG1", 2}, {"gG30000", 30001}, {"A0z0Z0f0M0R", 5}, {"gaC5rG3R", 10},
+        {"gG1", 2}, {"gG30000", 30001}, {"A0z0Z0f0M0R", 5},
         {"ggggA1A1A1A1A1A1A1A1A1A1G30000G30000G30000G30000R", UINT64_C(8910054001800060001)},
         {"ggggA1A1A1A1A1A1A1A1A1A1A1G30000G30000G30000G30000R", DT_COUNT_OVER},
         {"ggggz0z0z0z0z0z0z0z0z0z0z0z0z0z0z0z0z0z0z0z0z0z0z0z0z0z0z0z0z0z0G30000G30000G30000G30000R", DT_COUNT_OVER},
@@ -106,8 +103,6 @@ static void texts(void)
     same("A1R", text("A1R"), DT_TEXT_BAD);
     same("fourteen", text("A1A1A1A1A1A1A1A1A1A1A1A1A1A1"), DT_TEXT_GOOD);
     same("fifteen", text("A1A1A1A1A1A1A1A1A1A1A1A1A1A1A1"), DT_TEXT_BAD);
-    same("fourteen of two letters", text("aC1aC1aC1aC1aC1aC1aC1aC1aC1aC1aC1aC1aC1aC1"), DT_TEXT_GOOD);
-    same("fifteen of two letters", text("aC1aC1aC1aC1aC1aC1aC1aC1aC1aC1aC1aC1aC1aC1aC1"), DT_TEXT_BAD);
     same("ten digits", text("A0000000001"), DT_TEXT_GOOD);
     same("eleven digits", text("A00000000001"), DT_TEXT_BAD);
     same("nines", dt_check_text(nines, sizeof nines), DT_TEXT_BAD);
@@ -134,19 +129,6 @@ static void with_byte(const char *what, size_t at, uint8_t byte, uint32_t wanted
     same(what, dt_check_image(image, DT_IMAGE_BYTES), wanted);
 }
 
-/* The other form: "A10" packed as program 3, the later starts behind it. */
-static void with_small_byte(const char *what, size_t at, uint8_t byte, uint32_t wanted)
-{
-    memset(image, 0, sizeof image);
-    for (unsigned k = 0; k < 16; k++) {
-        image[4 * k] = k > 3 ? 67 : 64;
-    }
-    image[4 * 3 + 2] = 3;
-    memcpy(image + 64, "A10", 3);
-    image[at] = byte;
-    same(what, dt_check_image(image, DT_SMALL_IMAGE_BYTES), wanted);
-}
-
 static void images(void)
 {
     clear();
@@ -165,12 +147,6 @@ static void images(void)
     memcpy(image + 64 + 256 * 3, "A00000000010", 12);
     image[4 * 3 + 2] = 12;
     same("a program of an older store", dt_check_image(image, DT_IMAGE_BYTES), DT_IMAGE_BAD);
-    with_small_byte("a small image", 66, '0', DT_IMAGE_GOOD);
-    with_small_byte("a start that is not packed", 4 * 9, 64, DT_IMAGE_BAD);
-    with_small_byte("the first unused byte of a small image", 67, 1, DT_IMAGE_BAD);
-    with_small_byte("its last byte", DT_SMALL_IMAGE_BYTES - 1, 1, DT_IMAGE_BAD);
-    with_small_byte("a letter in a small image", 64, 'R', DT_IMAGE_BAD);
-    same("a small image, a byte long", dt_check_image(image, DT_SMALL_IMAGE_BYTES + 1), DT_IMAGE_LENGTH);
 }
 
 static void ramps(void)

@@ -3,7 +3,7 @@
 use Prim.Native.Nat.{ℕ, suc, ◌+◌, ◌-◌, ◌%◌, ◌/◌, ◌≤◌, ◌<◌}
 use mathlib.Core.Path.{◌≡◌, refl, sym, ap, ◌∙◌}
 use mathlib.Core.List.{List, [], ◌∷◌, ◌++◌}
-use mathlib.Core.Bool.{Bool, true, false, ◌&&◌, and-true, and_false}
+use mathlib.Core.Bool.{Bool, true, false, ◌&&◌, and-true, and-false}
 use native.Mathlib.Omega.{arith}
 use native.Mathlib.Numerals.{add-one}
 use lib.ListN.{length, get_or, take, drop, length-take, length-drop, take-append-drop, drop_of_length-le}
@@ -124,11 +124,11 @@ by_bit n a b = sym (rw (ne_eqb (n / 128 % 2) 1 a, ne_eqb (n / 16 % 2) 1 b, and-t
 -- where one of them is set, the status is none
 pub bit_7_set : (n : ℕ) → n / 128 % 2 ≡ 1 → false ≡ good_status n
 unfolding good_status
-bit_7_set n a = rw (eq_eqb (n / 128 % 2) 1 a, and_false)
+bit_7_set n a = rw (eq_eqb (n / 128 % 2) 1 a, and-false)
 
 pub bit_4_set : (n : ℕ) → n / 16 % 2 ≡ 1 → false ≡ good_status n
 unfolding good_status
-bit_4_set n a = rw (eq_eqb (n / 16 % 2) 1 a, and_false, and_false)
+bit_4_set n a = rw (eq_eqb (n / 16 % 2) 1 a, and-false, and-false)
 
 -- ---- the data
 
@@ -189,8 +189,8 @@ module _ (s : List ℕ) (around : ℕ) where
 
   pub no_status : (a : Bool) {b : Bool} → b ≡ good_status (status_in s) → b ≡ false → Neither ≡ inside_by a around s
   unfolding inside_by one_by
-  no_status a e f = rw (← e, f, and_false)
+  no_status a e f = rw (← e, f, and-false)
 
   pub no_data : (a : Bool) {c : Bool} → c ≡ good_data lent → c ≡ false → Neither ≡ inside_by a around s
   unfolding inside_by one_by
-  no_data a e f = let data_so : good_data (data_in around s) ≡ false = rw data_lent at (sym e ∙ f) in rw (data_so, and_false, and_false)
+  no_data a e f = let data_so : good_data (data_in around s) ≡ false = rw data_lent at (sym e ∙ f) in rw (data_so, and-false, and-false)

@@ -103,36 +103,36 @@ status-apart i j c d h g e =
 
 module _ {make : ℕ → List ℕ → List ℕ} {around start : ℕ} {back : ℕ → List ℕ → List ℕ} (g : Framing make around start back) where
   module _ (status : ℕ) (bytes : List ℕ) where
-    status-back : status_in (make status bytes) ≡ status
-    status-back = ap status_in (g.made status bytes)
+    status_back : status_in (make status bytes) ≡ status
+    status_back = ap status_in (g.made status bytes)
 
-    part-back : part (make status bytes) data_at (length bytes) ≡ bytes
+    part_back : part (make status bytes) data_at (length bytes) ≡ bytes
     unfolding part
-    part-back = rw (g.made status bytes) (take-append_seam bytes (back status bytes))
+    part_back = rw (g.made status bytes) (take-append_seam bytes (back status bytes))
 
     data_back : data_in around (make status bytes) ≡ bytes
     unfolding data_in
     data_back =
         let n : length (make status bytes) - around ≡ length bytes = omega (arith, length_made g status bytes) in
-        rw n part-back
+        rw n part_back
 
-    framed-back : framed_by make around (make status bytes) ≡ true
+    framed_back : framed_by make around (make status bytes) ≡ true
     unfolding framed_by
-    framed-back = rw (status-back, data_back) (same_self (make status bytes))
+    framed_back = rw (status_back, data_back) (same_self (make status bytes))
 
     inside_back : good_status status ≡ true → good_data bytes ≡ true
         → inside_by (framed_by make around (make status bytes)) around (make status bytes) ≡ StatusData status (length bytes)
     unfolding inside_by one_by
-    inside_back h d = rw (framed-back, status-back, data_back, h, d)
+    inside_back h d = rw (framed_back, status_back, data_back, h, d)
 
   -- what the host is told of a slice
   abbrev told : List ℕ → Packet
   told s = told_of (inside_by (framed_by make around s) around s)
 
-  pub reads-back : (idle : Bool) (code : ℕ) (bytes : List ℕ) → good_data bytes ≡ true
+  pub reads_back : (idle : Bool) (code : ℕ) (bytes : List ℕ) → good_data bytes ≡ true
       → ToldAs (told (make (status_of idle code) bytes)) (make (status_of idle code) bytes) idle code bytes
   unfolding told_of
-  reads-back idle code bytes h =
+  reads_back idle code bytes h =
       let e = inside_back (status_of idle code) bytes (status-good idle code) h in
       let b = status_bits idle code in
       record {
@@ -140,13 +140,13 @@ module _ {make : ℕ → List ℕ → List ℕ} {around start : ℕ} {back : ℕ
         as_status = rw e;
         as_idle = rw e b.bit_5;
         as_code = rw e b.low-four;
-        as_data = rw e (part-back (status_of idle code) bytes);
+        as_data = rw e (part_back (status_of idle code) bytes);
       }
 
   -- no two packets are alike
   pub packet-apart : (s t : ℕ) (x y : List ℕ) → make s x ≡ make t y → (s ≡ t) × (x ≡ y)
   packet-apart s t x y e = (
-    sym (status-back s x) ∙ ap status_in e ∙ status-back t y,
+    sym (status_back s x) ∙ ap status_in e ∙ status_back t y,
     sym (data_back s x) ∙ ap (data_in around) e ∙ data_back t y,
   )
 

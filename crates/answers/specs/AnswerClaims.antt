@@ -52,7 +52,7 @@ pub record AnswerClaims : Type 0 where
   -- a slice is read where it is exactly one packet, and nowhere else
   pub which : (s : List ℕ) → (read_of s).found ≡ found_of (is_packet s)
   -- every packet of a status and of data that a packet may have is read back
-  pub reads-back : (idle : Bool) (code : ℕ) (bytes : List ℕ) → good_data bytes ≡ true
+  pub reads_back : (idle : Bool) (code : ℕ) (bytes : List ℕ) → good_data bytes ≡ true
       → ReadsAs (packet (status_of idle code) bytes) idle code bytes
   -- whatever is read as a packet is the packet of the status and the data that are told: nothing else is taken
   pub nothing_else : (s : List ℕ) → (read_of s).found ≡ OnePacket → Genuine s
@@ -82,7 +82,7 @@ pub record AnswerClaims : Type 0 where
   pub k2_packet : packet (status_of true 0) (decimal 0) ≡ 0x2F ∷ 0x30 ∷ 0x60 ∷ 0x30 ∷ 0x03 ∷ 0x0D ∷ 0x0A ∷ []
   -- THE OEM FRAMING (02, E1): the same of its packets
   pub which-oem : (s : List ℕ) → (read_oem_of s).found ≡ found_of (is_oem_packet s)
-  pub reads-back-oem : (idle : Bool) (code : ℕ) (bytes : List ℕ) → good_data bytes ≡ true
+  pub reads_back_oem : (idle : Bool) (code : ℕ) (bytes : List ℕ) → good_data bytes ≡ true
       → ReadsAsOem (oem_packet (status_of idle code) bytes) idle code bytes
   pub nothing_else_oem : (s : List ℕ) → (read_oem_of s).found ≡ OnePacket → GenuineAs oem_packet (read_oem_of s) s
   pub refused-zeros-oem : (s : List ℕ) → (read_oem_of s).found ≡ NotOnePacket → read_oem_of s ≡ packet_refused

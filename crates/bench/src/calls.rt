@@ -1,9 +1,8 @@
-// The operations that need no unit: `fill`, `line`, `text`, `read`, `count`, `listen`, `older`, `newer`, `ramp`, `write`.
+// The operations that need no unit: `line`, `text`, `read`, `count`, `listen`, `older`, `newer`, `ramp`, `write`.
 use crate::forms::Task;
 use crate::{fields, forms, heard, list, telling};
 use answers::{Found, Packet};
 use commands::Fault;
-use fill::Filled;
 use forecast::Counted;
 use host::LineWritten;
 use lines::Slot;
@@ -26,7 +25,6 @@ pub(crate) fn ask(t: Task, given: &[u8], image: &[u8], buffer: &mut [u8]) {
         forms::NEWER => translate(forms::NEWER, given),
         forms::WRITE => write(t, given, buffer),
         forms::STORE => telling::say_of(forms::STORE, 0, 0, 0, 0, image),
-        forms::FILL => tell_fill(fill::fill(image)),
         _ => ask_plain(t, image.len(), buffer),
     }
 }
@@ -126,15 +124,6 @@ fn why_of(r: Refusal) -> u64 {
         Why::BadOperand => 2,
         Why::BadStructure => 3,
         Why::PastMost => 4,
-    }
-}
-
-// How full the image is, or why that is not said.
-fn tell_fill(filled: Filled) {
-    match filled {
-        Filled::Used(slots, bytes) => telling::say(forms::FILL, 0, slots as u64, bytes as u64, 0),
-        Filled::WrongLength => telling::say(forms::FILL, 1, 0, 0, 0),
-        Filled::EntryPast => telling::say(forms::FILL, 2, 0, 0, 0),
     }
 }
 

@@ -1,5 +1,4 @@
-// Turns made one after another, each reporting all its steps, with the encoder as it stands: `run`, and `timeline`, which tells
-// each of them.
+// Turns made one after another, each reporting all its steps: `run`, and `timeline`, which tells each of them.
 use crate::forms::Task;
 use crate::{fields, forms, state, telling, unit};
 use drive::{Record, Turned};
@@ -101,15 +100,7 @@ fn make_turn(
     image: &[u8],
 ) -> Record {
     let before = *text;
-    let turned = drive::turn(
-        u,
-        text,
-        sample,
-        ms,
-        u.core.motor.last.number,
-        u.core.motor.encoder.given,
-        image,
-    );
+    let turned = drive::turn(u, text, sample, ms, u.core.motor.last.number, image);
     tell_turn(row, u, before, n, turned);
     turned.unit
 }
@@ -175,9 +166,6 @@ fn wait_code(wait: Wait) -> u64 {
         Wait::LegToward(left) => 4,
         Wait::Delay(left) => 5,
         Wait::Input(digits) => 6,
-        // Of an idle unit alone.
-        Wait::Jog { up, left } => 0,
-        Wait::Try { up, left, made } => 7,
     }
 }
 
@@ -195,8 +183,6 @@ fn wait_left(wait: Wait) -> u64 {
         Wait::LegToward(left) => left as u64,
         Wait::Delay(left) => left as u64,
         Wait::Input(digits) => two_digits(digits),
-        Wait::Jog { up, left } => 0,
-        Wait::Try { up, left, made } => left as u64,
     }
 }
 

@@ -32,19 +32,12 @@ const NO_RUN: usize = 7;
 
 pub(crate) const NO_LIST: usize = 8;
 
-const NO_WORD: usize = 9;
-
 // Nothing is wrong: others may follow, or this was the last one, or none was left.
-pub(crate) const FINE: usize = 10;
+pub(crate) const FINE: usize = 9;
 
-pub(crate) const LAST: usize = 11;
+pub(crate) const LAST: usize = 10;
 
-pub(crate) const ENDED: usize = 12;
-
-// The greatest count; and what -1 reads as, which those below it follow.
-const COUNT_MOST: u64 = 2147483647;
-
-const FIRST_BELOW: u64 = COUNT_MOST + 1;
+pub(crate) const ENDED: usize = 11;
 
 // The byte at a place; past the end LF.
 pub(crate) fn byte_at(s: &[u8], at: usize) -> u8 {
@@ -127,38 +120,6 @@ fn ended(length: usize, end: usize, fault: usize, n: u64) -> Reading {
     wrong(NO_NUMBER)
 }
 
-// A count: a number that a `-` may stand before, of 32 bits with its sign.
-pub(crate) fn signed(field: &[u8]) -> Reading {
-    if byte_at(field, 0) == b'-' {
-        return below_zero(number(rest(field, 1)));
-    }
-    let n = number(field);
-    if COUNT_MOST < n.value {
-        return wrong(TOO_GREAT);
-    }
-    n
-}
-
-// The count that lies so far below 0: these follow the greatest one.
-fn below_zero(n: Reading) -> Reading {
-    if n.value == 0 {
-        return n;
-    }
-    if COUNT_MOST < n.value - 1 {
-        return wrong(TOO_GREAT);
-    }
-    read_as(n.fault, FIRST_BELOW + (n.value - 1))
-}
-
-// The count that a field reads as.
-pub(crate) fn count_of(n: u64) -> i32 {
-    let count = narrow(n) as u64;
-    if count < FIRST_BELOW {
-        return count as i32;
-    }
-    -1 - ((count - FIRST_BELOW) as i32)
-}
-
 // A number that a field reads as has at most 32 bits.
 pub(crate) fn narrow(n: u64) -> u32 {
     (n % 4294967296) as u32
@@ -221,14 +182,6 @@ pub(crate) fn run(field: &[u8]) -> Reading {
     } else {
         wrong(NO_RUN)
     }
-}
-
-// A word that stands for itself.
-pub(crate) fn word(field: &[u8], word: &[u8]) -> Reading {
-    if check::same(field, word) {
-        return read_as(FINE, 0);
-    }
-    wrong(NO_WORD)
 }
 
 // Bytes: `-`, or hex digits, two a byte. How many characters.
@@ -312,9 +265,8 @@ fn command_end(text: &[u8], at: usize) -> usize {
     if text.len() <= at {
         return at;
     }
-    let letter = text[at];
-    let after = name_end(letter, at + 1);
-    if is_alone(letter) {
+    let after = at + 1;
+    if text[at] == b'g' {
         return after;
     }
     let operand = digits::read_operand(text, after);
@@ -322,22 +274,5 @@ fn command_end(text: &[u8], at: usize) -> usize {
         Operand::Missing => after,
         Operand::Number(_, end) => end,
         Operand::Above(end) => end,
-    }
-}
-
-// The place past a name whose first letter ends at a place: `a` has a second.
-fn name_end(letter: u8, after: usize) -> usize {
-    if letter != b'a' {
-        return after;
-    }
-    if after < usize::MAX { after + 1 } else { after }
-}
-
-// Whether a letter has no operand.
-fn is_alone(letter: u8) -> bool {
-    match letter {
-        b'g' => true,
-        b'r' => true,
-        _ => false,
     }
 }

@@ -4,33 +4,24 @@ use crate::fields::{LF, Reading};
 use crate::{fields, list, state, telling};
 
 // The most fields of a form, with the `:` behind them.
-const MOST_FIELDS: usize = 5;
+const MOST_FIELDS: usize = 4;
 
 // The rows, and the bytes of the table.
-const ROWS: usize = HELP + 1;
+const ROWS: usize = 24;
 
-const TABLE_BYTES: usize = 1712;
+const TABLE_BYTES: usize = 1069;
 
 pub(crate) const TABLE: [u8; TABLE_BYTES] = *b"image HEX : lend these bytes as the image
 image empty : lend the image with all slots empty
-image small : lend the small image with all slots empty
-move small N : move the texts of the image into a small one of N bytes
-move big N : move the texts of the small image into one of N bytes
 room N : lend an answer buffer of N bytes, each a5
 buffer : tell the answer buffer
 start N : start unit N
 feed HEX : feed these bytes
-turn SAMPLE MS STEPS COUNT : make one turn
+turn SAMPLE MS STEPS : make one turn
 run SAMPLE MS : make turns until the unit is idle or waits for an input
 timeline SAMPLE MS : the same, with a line for each turn
 unit : tell the unit
 store : tell the image
-fill : tell used slots and used bytes of the image, from its contents table
-other HEX : hold these bytes as the second image
-other empty : hold the image with all slots empty as the second
-other small : hold the small image with all slots empty as the second
-differ : list the slots whose texts differ in both images, each with its first differing place
-either SLOT : tell the text of a slot of the image, or of the second where that is empty
 line HEX : judge a body
 text HEX : judge a text to be stored
 ramp V L N : tell the ramp of N microsteps
@@ -47,82 +38,58 @@ help : tell the operations";
 
 pub(crate) const IMAGE: usize = 0;
 
-pub(crate) const EMPTY: usize = IMAGE + 1;
+pub(crate) const EMPTY: usize = 1;
 
-pub(crate) const SMALL: usize = EMPTY + 1;
+pub(crate) const ROOM: usize = 2;
 
-pub(crate) const MOVE_SMALL: usize = SMALL + 1;
+pub(crate) const START: usize = 4;
 
-pub(crate) const MOVE_BIG: usize = MOVE_SMALL + 1;
+pub(crate) const FEED: usize = 5;
 
-pub(crate) const ROOM: usize = MOVE_BIG + 1;
+pub(crate) const TURN: usize = 6;
 
-pub(crate) const START: usize = ROOM + 2;
+pub(crate) const RUN: usize = 7;
 
-pub(crate) const FEED: usize = START + 1;
+pub(crate) const TIMELINE: usize = 8;
 
-pub(crate) const TURN: usize = FEED + 1;
+pub(crate) const UNIT: usize = 9;
 
-pub(crate) const RUN: usize = TURN + 1;
+pub(crate) const STORE: usize = 10;
 
-pub(crate) const TIMELINE: usize = RUN + 1;
+pub(crate) const LINE: usize = 11;
 
-pub(crate) const UNIT: usize = TIMELINE + 1;
+pub(crate) const TEXT: usize = 12;
 
-pub(crate) const STORE: usize = UNIT + 1;
+pub(crate) const RAMP: usize = 13;
 
-pub(crate) const FILL: usize = STORE + 1;
+pub(crate) const ENDLESS: usize = 14;
 
-pub(crate) const OTHER: usize = FILL + 1;
+pub(crate) const WRITE: usize = 15;
 
-pub(crate) const OTHER_EMPTY: usize = OTHER + 1;
+pub(crate) const READ: usize = 16;
 
-pub(crate) const OTHER_SMALL: usize = OTHER_EMPTY + 1;
+pub(crate) const OEM: usize = 17;
 
-pub(crate) const DIFFER: usize = OTHER_SMALL + 1;
+pub(crate) const COUNT: usize = 18;
 
-pub(crate) const EITHER: usize = DIFFER + 1;
+pub(crate) const LISTEN: usize = 19;
 
-pub(crate) const LINE: usize = EITHER + 1;
+pub(crate) const OLDER: usize = 20;
 
-pub(crate) const TEXT: usize = LINE + 1;
+pub(crate) const NEWER: usize = 21;
 
-pub(crate) const RAMP: usize = TEXT + 1;
+pub(crate) const TYPED: usize = 22;
 
-pub(crate) const ENDLESS: usize = RAMP + 1;
+pub(crate) const HELP: usize = 23;
 
-pub(crate) const WRITE: usize = ENDLESS + 1;
-
-pub(crate) const READ: usize = WRITE + 1;
-
-pub(crate) const OEM: usize = READ + 1;
-
-pub(crate) const COUNT: usize = OEM + 1;
-
-pub(crate) const LISTEN: usize = COUNT + 1;
-
-pub(crate) const OLDER: usize = LISTEN + 1;
-
-pub(crate) const NEWER: usize = OLDER + 1;
-
-pub(crate) const TYPED: usize = NEWER + 1;
-
-pub(crate) const HELP: usize = TYPED + 1;
-
-// The names of fields that are no numbers, the end of a form, and the words that stand for themselves.
-const KINDS: [u8; 54] = *b"HEX \nRUN \nSLOT \nSEQ \nTEXT \nLIST \n: \nsmall \nbig \nCOUNT ";
+// The names of fields that are no numbers, and the end of a form.
+const KINDS: [u8; 35] = *b"HEX \nRUN \nSLOT \nSEQ \nTEXT \nLIST \n: ";
 
 const KIND_TEXT: usize = 4;
 
 const KIND_LIST: usize = 5;
 
 const KIND_END: usize = 6;
-
-const KIND_SMALL: usize = 7;
-
-const KIND_BIG: usize = 8;
-
-const KIND_COUNT: usize = 9;
 
 // The greatest unit number and the greatest sample.
 const BYTE_MOST: u64 = 255;
@@ -132,8 +99,7 @@ const BYTE_MOST: u64 = 255;
 pub(crate) struct Task {
     // The row of its form; that of a reason where it is none of the operations.
     pub(crate) row: usize,
-    // What the last three fields read as, and the one before them; of a reason the first of the three is what is wrong.
-    pub(crate) before: u64,
+    // What the last three fields read as; of a reason the first is what is wrong.
     pub(crate) a: u64,
     pub(crate) b: u64,
     pub(crate) c: u64,
@@ -153,35 +119,16 @@ pub(crate) fn read(line: &[u8]) -> Task {
     if fields::byte_at(line, 0) == b'/' {
         return blank_task(TYPED, 0, 0);
     }
-    let row = worded(line);
-    if row != HELP {
-        return blank_task(row, 0, 0);
+    if check::same(line, b"image empty") {
+        return blank_task(EMPTY, 0, 0);
     }
     read_by(&TABLE, line)
-}
-
-// The row of a line that is a form of two words; that of help where it is none.
-fn worded(line: &[u8]) -> usize {
-    if check::same(line, b"image empty") {
-        return EMPTY;
-    }
-    if check::same(line, b"image small") {
-        return SMALL;
-    }
-    if check::same(line, b"other empty") {
-        return OTHER_EMPTY;
-    }
-    if check::same(line, b"other small") {
-        return OTHER_SMALL;
-    }
-    HELP
 }
 
 // A task before any field is read.
 fn blank_task(row: usize, a: u64, at: usize) -> Task {
     Task {
         row: row,
-        before: 0,
         a: a,
         b: 0,
         c: 0,
@@ -200,25 +147,11 @@ fn read_by(table: &[u8], line: &[u8]) -> Task {
     if ROWS <= row {
         return reason(fields::NO_ROW, 0);
     }
-    let t = read_fields(table, move_row(row, line), line);
+    let t = read_fields(table, row, line);
     if is_endless(table, line, t) {
         return task_of(ENDLESS, t);
     }
-    if is_no_slot(t) {
-        return reason(fields::NO_NUMBER, first_name(table, row));
-    }
     judged(t)
-}
-
-// The row of a move by the word behind the first; other rows stay.
-fn move_row(row: usize, line: &[u8]) -> usize {
-    if row != MOVE_SMALL {
-        return row;
-    }
-    if check::same(fields::field_at(line, fields::past(line, 0, b' ')), b"big") {
-        return MOVE_BIG;
-    }
-    row
 }
 
 // The first row that begins with a word; ROWS where there is none.
@@ -263,7 +196,6 @@ fn with_field(t: Task, field: Reading, at: usize, name: usize) -> Task {
         u.fault = fields::FINE;
     }
     u.at = at;
-    u.before = t.a;
     u.a = t.b;
     u.b = t.c;
     u.c = field.value;
@@ -314,7 +246,7 @@ fn read_list(list: &[u8], is_missing: bool, great: bool) -> Reading {
     fields::read_as(fields::LAST, count as u64)
 }
 
-// What a field reads as, by the place of its kind among KINDS: HEX, RUN, SLOT, SEQ, a word, a count; else it is a number.
+// What a field reads as, by the place of its kind among KINDS: HEX, RUN, SLOT, SEQ; else it is a number.
 fn value_of(kind: usize, field: &[u8]) -> Reading {
     if field.len() == 0 {
         return fields::wrong(fields::MISSING);
@@ -324,9 +256,6 @@ fn value_of(kind: usize, field: &[u8]) -> Reading {
         1 => fields::run(field),
         2 => fields::slot(field),
         3 => fields::sequence(field),
-        KIND_SMALL => fields::word(field, b"small"),
-        KIND_BIG => fields::word(field, b"big"),
-        KIND_COUNT => fields::signed(field),
         _ => fields::number(field),
     }
 }
@@ -343,22 +272,6 @@ fn is_endless(table: &[u8], line: &[u8], t: Task) -> bool {
         return false;
     }
     check::same(fields::rest(line, t.at), b"endless")
-}
-
-// Whether the slot of a text is `-`, which is that of a line alone.
-fn is_no_slot(t: Task) -> bool {
-    if t.row != EITHER {
-        return false;
-    }
-    if t.fault != fields::ENDED {
-        return false;
-    }
-    t.c == 0
-}
-
-// Where the name of the first field of a row stands.
-fn first_name(table: &[u8], row: usize) -> usize {
-    fields::past(table, fields::past_nth(table, 0, row, LF), b' ')
 }
 
 // The same task by another row.
@@ -417,10 +330,9 @@ fn is_too_great(t: Task) -> bool {
     let row = t.row;
     match row {
         IMAGE => 2 * (state::IMAGE_MOST as u64) < t.c,
-        OTHER => 2 * (state::IMAGE_MOST as u64) < t.c,
         ROOM => (state::ROOM_MOST as u64) < t.c,
         START => BYTE_MOST < t.c,
-        TURN => BYTE_MOST < t.before,
+        TURN => BYTE_MOST < t.a,
         RUN => BYTE_MOST < t.b,
         TIMELINE => BYTE_MOST < t.b,
         _ => false,

@@ -65,7 +65,6 @@ fn frame_oem(number: u8, sequence: u8, from: usize, end: usize, line: &mut [u8])
 fn is_hex(row: usize) -> bool {
     match row {
         forms::IMAGE => true,
-        forms::OTHER => true,
         forms::FEED => true,
         forms::LINE => true,
         forms::TEXT => true,
@@ -78,7 +77,7 @@ fn is_hex(row: usize) -> bool {
     }
 }
 
-// How many bytes of the image are lent behind an operation: `image HEX`, `image empty` and `image small` change them.
+// How many bytes of the image are lent behind an operation: `image HEX` and `image empty` change them.
 pub(crate) fn lend_image(n: usize, row: usize, given: &[u8], image: &mut [u8]) -> usize
     ensures { result ≤ length image.new }
 {
@@ -87,11 +86,7 @@ pub(crate) fn lend_image(n: usize, row: usize, given: &[u8], image: &mut [u8]) -
         return fields::least(given.len(), image.len());
     }
     if row == forms::EMPTY {
-        let all = state::empty(state::EMPTY_BYTES, image);
-        return fields::least(all, image.len());
-    }
-    if row == forms::SMALL {
-        let all = state::empty(state::SMALL_BYTES, image);
+        let all = state::empty(image);
         return fields::least(all, image.len());
     }
     fields::least(n, image.len())

@@ -1,7 +1,7 @@
-// The list of `write`: commands as names and operands.
+// The list of `write`: commands as letters and operands.
 use crate::fields;
 use crate::fields::Reading;
-use commands::{Command, Name, Named};
+use commands::{Command, Named};
 
 // The most commands that a line can have.
 const MOST: usize = 256;
@@ -35,7 +35,7 @@ pub(crate) fn list_of(list: &[u8]) -> [Command; MOST] {
     commands
 }
 
-// Whether a name and its operand stand at a place.
+// Whether a letter and its operand stand at a place.
 fn is_command(list: &[u8], at: usize) -> bool {
     let Named::Is(_) = command_at(list, at) else {
         return false;
@@ -43,39 +43,28 @@ fn is_command(list: &[u8], at: usize) -> bool {
     true
 }
 
-// The command whose name and operand stand at a place.
+// The command whose letter and operand stand at a place.
 fn command_at(list: &[u8], at: usize) -> Named {
-    let name = fields::field_at(list, at);
+    let letter = fields::field_at(list, at);
+    if letter.len() != 1 {
+        return Named::NoCommand;
+    }
     let operand = fields::field_at(list, fields::past(list, at, b' '));
-    if name.len() == 1 {
-        let letter = name[0];
-        return command_of(letter, 0, operand_of(letter, operand));
-    }
-    if name.len() == 2 {
-        if name[0] == b'a' {
-            return command_of(b'a', name[1], fields::number(operand));
-        }
-    }
-    Named::NoCommand
+    command_of(letter[0], operand_of(letter[0], operand))
 }
 
-// The command of a name and its operand.
-fn command_of(letter: u8, second: u8, operand: Reading) -> Named {
+// The command of a letter and its operand.
+fn command_of(letter: u8, operand: Reading) -> Named {
     if operand.fault != fields::FINE {
         return Named::NoCommand;
     }
-    let name = Name {
-        letter: letter,
-        second: second,
-    };
-    commands::command_of(name, fields::narrow(operand.value))
+    commands::command_of(letter, fields::narrow(operand.value))
 }
 
 // The operand of a letter.
 fn operand_of(letter: u8, operand: &[u8]) -> Reading {
     match letter {
         b'g' => fields::none(operand),
-        b'r' => fields::none(operand),
         b'H' => fields::pair(operand),
         b'S' => fields::pair(operand),
         _ => fields::number(operand),

@@ -7,8 +7,6 @@ mod giving;
 mod heard;
 mod input;
 mod list;
-mod moving;
-mod second;
 mod state;
 mod telling;
 mod unit;
@@ -22,9 +20,7 @@ fn main() {
     let mut chunk = io::buffer();
     let mut line = [0u8; input::LINE_ROOM];
     let mut image = [0u8; state::IMAGE_MOST];
-    state::empty(state::EMPTY_BYTES, &mut image);
-    let mut other = [0u8; state::IMAGE_MOST];
-    state::empty(state::EMPTY_BYTES, &mut other);
+    state::empty(&mut image);
     let mut buffer = [state::BLANK; state::ROOM_MOST];
     let mut body = [0u8; state::BODY_BYTES];
     let mut text = [0u8; state::TEXT_BYTES];
@@ -42,7 +38,6 @@ fn main() {
             r.length,
             &mut line,
             &mut image,
-            &mut other,
             &mut buffer,
             &mut body,
             &mut text,
@@ -56,33 +51,13 @@ fn serve_line(
     n: usize,
     line: &mut [u8],
     image: &mut [u8],
-    other: &mut [u8],
     buffer: &mut [u8],
     body: &mut [u8; state::BODY_BYTES],
     text: &mut [u8; state::TEXT_BYTES],
 ) -> Bench {
     let t = giving::ask(line, n, b.unit.number);
     let given = parts::part(line, t.from, t.length);
-    if second::is_asked(t.row) {
-        return serve_second(b, t, given, image, other);
-    }
-    if moving::is_asked(t.row) {
-        return moving::serve(b, t, image);
-    }
     serve_task(b, t, given, image, buffer, body, text)
-}
-
-// Does what a line asks for of the second image.
-fn serve_second(b: Bench, t: Task, given: &[u8], image: &[u8], other: &mut [u8]) -> Bench {
-    let m = giving::lend_image(b.other_bytes, second::image_row(t.row), given, other);
-    second::tell(
-        t,
-        parts::first(image, b.image_bytes),
-        parts::first(other, m),
-    );
-    let mut c = b;
-    c.other_bytes = m;
-    c
 }
 
 // Does what a line asks for, with the bytes that it gives and what is lent from now on.
@@ -109,7 +84,6 @@ fn serve_task(
     Bench {
         unit: u,
         image_bytes: n,
-        other_bytes: b.other_bytes,
         room: room,
     }
 }

@@ -1,13 +1,12 @@
-// What the bench holds beside the bytes that it lends: those of both images and of the answer buffer, and the two texts of the unit.
+// What the bench holds beside the bytes that it lends: those of image and answer buffer, and the two texts of the unit.
 use drive::Record;
 
 #[derive(Drop)]
 pub(crate) struct Bench {
     // Its number is 0 until a start is not refused.
     pub(crate) unit: Record,
-    // How many bytes of the image, of the second one, and of the answer buffer are lent.
+    // How many bytes of the image, and of the answer buffer, are lent.
     pub(crate) image_bytes: usize,
-    pub(crate) other_bytes: usize,
     pub(crate) room: usize,
 }
 
@@ -16,12 +15,10 @@ pub(crate) const BODY_BYTES: usize = 257;
 
 pub(crate) const TEXT_BYTES: usize = 256;
 
-// The most bytes of an image, and those of the two with all slots empty.
+// The most bytes of an image, and of the one with all slots empty.
 pub(crate) const IMAGE_MOST: usize = 4200;
 
-pub(crate) const EMPTY_BYTES: usize = 4160;
-
-pub(crate) const SMALL_BYTES: usize = 1024;
+const EMPTY_BYTES: usize = 4160;
 
 // The most bytes of an answer buffer, and those of the first.
 pub(crate) const ROOM_MOST: usize = 512;
@@ -31,24 +28,23 @@ const FIRST_ROOM: usize = 262;
 // What an answer buffer holds before anything is written in it.
 pub(crate) const BLANK: u8 = 0xa5;
 
-// The bench at its beginning: both images with all slots empty, and no unit but the record of a refused start.
+// The bench at its beginning: the image with all slots empty, and no unit but the record of a refused start.
 pub(crate) fn begin(body: &mut [u8; BODY_BYTES], text: &mut [u8; TEXT_BYTES]) -> Bench {
     let none = drive::start(0, b"", body, text);
     let unit = none.unit;
     Bench {
         unit: unit,
         image_bytes: EMPTY_BYTES,
-        other_bytes: EMPTY_BYTES,
         room: FIRST_ROOM,
     }
 }
 
-// Makes the image the one of so many bytes with all slots empty: its length.
-pub(crate) fn empty(n: usize, image: &mut [u8]) -> usize {
-    if n <= image.len() {
-        image::clear(&mut image[0..n]);
+// Makes the image the one with all slots empty: its length.
+pub(crate) fn empty(image: &mut [u8]) -> usize {
+    if EMPTY_BYTES <= image.len() {
+        image::clear(&mut image[0..EMPTY_BYTES]);
     }
-    n
+    EMPTY_BYTES
 }
 
 // Makes the answer buffer one in which nothing was written.

@@ -3,26 +3,23 @@
 // In a row `#` is the next number in decimal, `~` in two hex digits, `^` in sixteen, and `_` passes one over. `*` is the bytes in
 // hex, `-` where there are none, and `$` the bytes as they are. Of `[one|another]` the next number says which, from 0 on.
 use crate::fields::LF;
-use crate::{fields, forms, state};
+use crate::{fields, state};
 use libc::STDOUT_FILENO;
 
 // The most numbers of a row.
-const MOST_NUMBERS: usize = 28;
+const MOST_NUMBERS: usize = 18;
 
 // The rows past those of the operations, which stand in the order of their forms.
-pub(crate) const NO_UNIT: usize = forms::HELP + 1;
+pub(crate) const NO_UNIT: usize = 24;
 
-pub(crate) const REASON: usize = NO_UNIT + 1;
+pub(crate) const REASON: usize = 25;
 
-pub(crate) const TURN_LINE: usize = REASON + 1;
+pub(crate) const TURN_LINE: usize = 26;
 
-const ROWS_BYTES: usize = 1829;
+const ROWS_BYTES: usize = 1411;
 
 const ROWS: [u8; ROWS_BYTES] = *b"image #
 image #
-image #
-[moved #|refused target-length|refused image-bad|refused total]
-[moved #|refused target-length|refused image-bad|refused total]
 room _#
 buffer *
 [started|refused unit-number|refused image-length|refused image-bad]
@@ -30,14 +27,8 @@ buffer *
 [act none|act up #|act down #|refused image-length|refused sample|refused steps]
 [ran # idle #|ran # waits|ran # busy|refused image-length|refused sample]
 [ran # idle #|ran # waits|ran # busy|refused image-length|refused sample]
-unit [idle|running] code=# position=# known=# V=# L=# j=# o=# m=# h=# f=# F=# J=# baud=# sample=# last=[-_|#] speed=# n=# B=# jog=[none|up|down] aC=# aE=# au=# count=# encoder=[|-]# overload=# text=*
+unit [idle|running] code=# position=# known=# V=# L=# j=# o=# m=# h=# f=# F=# J=# baud=# sample=# last=[-_|#] speed=# text=*
 store *
-[fill # #|refused image-length|refused entry]
-other #
-other #
-other #
-[differ$|refused first-bad|refused second-bad]
-[either *|refused first-bad|refused second-bad|refused slot]
 [line #][| #]
 text [bad|ok]
 [ramp # # ^ ^ ^|refused V|refused L|refused N]
@@ -52,8 +43,8 @@ heard $
 [-_|refused buffer_|refused image-length_|idle #|busy #][| $]
 $
 no unit
-?[ no such operation| a field too many| too great| $ is missing| $ is not a number| $ has an odd digit| $ is not hex| $ is neither R nor -| $ has a bad command| neither small nor big]
-turn #: at # [end|-|$], position #[?|], wait [none_|move #|endless #|away #|toward #|delay #|input ~|try #], [act none|act up #|act down #]
+?[ no such operation| a field too many| too great| $ is missing| $ is not a number| $ has an odd digit| $ is not hex| $ is neither R nor -| $ has a bad command]
+turn #: at # [end|-|$], position #[?|], wait [none_|move #|endless #|away #|toward #|delay #|input ~], [act none|act up #|act down #]
 ";
 
 // The longest answer is `store` of the longest image.
@@ -165,7 +156,7 @@ fn add_byte(out: &mut [u8], at: usize, byte: u8) -> usize {
 }
 
 // Adds a number in decimal.
-pub(crate) fn add_decimal(out: &mut [u8], at: usize, n: u64) -> usize {
+fn add_decimal(out: &mut [u8], at: usize, n: u64) -> usize {
     let mut digits = [0u8; 20];
     let k = io::decimal(n, &mut digits);
     add(out, at, &digits[..k])

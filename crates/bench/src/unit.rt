@@ -3,8 +3,6 @@ use crate::forms::Task;
 use crate::{calls, course, fields, forms, state, telling};
 use answers::Found;
 use drive::{FeedAnswer, Last, Record, StartAnswer, TurnAnswer};
-use encoder::Counts;
-use motor::{Motor, Wait};
 use turns::{Core, Direction};
 
 // Does an operation with the bytes that it gives, and with the image and the buffer that are lent, and tells its answer.
@@ -152,15 +150,14 @@ fn tell_packet(row: usize, answered: &[u8]) {
     telling::say_of(row, k, p.code as u64, (p.length != 0) as u64, 0, data);
 }
 
-// `turn SAMPLE MS STEPS COUNT`
+// `turn SAMPLE MS STEPS`
 fn turn(u: Record, t: Task, text: &mut [u8; state::TEXT_BYTES], image: &[u8]) -> Record {
     let turned = drive::turn(
         u,
         text,
-        fields::byte_of(t.before),
-        fields::narrow(t.a),
+        fields::byte_of(t.a),
         fields::narrow(t.b),
-        fields::count_of(t.c),
+        fields::narrow(t.c),
         image,
     );
     let action = turned.action;
@@ -221,15 +218,13 @@ fn number_of(last: Last) -> u64 {
 
 // The numbers of a unit, in the order of their names, and its text.
 fn tell_core(c: Core, is_last: u64, last: u64, text: &[u8]) {
-    let m = c.motor;
-    let wait = m.wait;
-    let e = m.encoder;
-    let seen = encoder::off_by(e, Counts(0));
+    let known = c.motor.known as u64;
+    let sample = c.motor.sample as u64;
     let numbers = [
         c.running as u64,
         c.code as u64,
-        wide(m.position),
-        m.known as u64,
+        wide(c.motor.position),
+        known,
         wide(c.settings.speed),
         wide(c.settings.acceleration),
         step_size(c.settings.exponent),
@@ -240,36 +235,12 @@ fn tell_core(c: Core, is_last: u64, last: u64, text: &[u8]) {
         wide(c.settings.turned),
         wide(c.settings.outputs),
         wide(c.settings.baud),
-        m.sample as u64,
+        sample,
         is_last,
         last,
         c.endless as u64,
-        wide(c.settings.mode),
-        wide(c.settings.distance),
-        jog_code(wait),
-        wide(c.settings.allowed),
-        wide(c.settings.ratio),
-        wide(c.settings.tries),
-        count_of(m, c.settings.ratio),
-        seen.below as u64,
-        seen.far,
-        m.overload as u64,
     ];
     telling::print(forms::UNIT, &numbers, text);
-}
-
-// The record's count by a ratio.
-fn count_of(m: Motor, ratio: u32) -> u64 {
-    let counts = motor::record_count(m, ratio);
-    counts.0 as u64
-}
-
-// Whether a jog is on, and which way.
-fn jog_code(wait: Wait) -> u64 {
-    let Wait::Jog { up, left: _ } = wait else {
-        return 0;
-    };
-    if up { 1 } else { 2 }
 }
 
 // A number of 32 bits as one of 64.

@@ -8,7 +8,7 @@ use borrow.Author.Tests.{le-leb, lt-leb, eq_eqb, ne_eqb, eqb-true}
 use Rattle.commands.specs.declared.Command.{Command}
 use Rattle.commands.specs.declared.Command.TheVariants.{LoopBegin, LoopEnd, Skip, Jump, Plain}
 use Rattle.commands.specs.declared.Act.{Act}
-use Rattle.commands.specs.declared.Act.TheVariants.{MoveTo, MoveUp, MoveDown, SetPosition, Home, Set, Delay, WaitInput, Recover}
+use Rattle.commands.specs.declared.Act.TheVariants.{MoveTo, MoveUp, MoveDown, SetPosition, Home, Set, Delay, WaitInput}
 use Rattle.commands.specs.Table.{table, find, command_of}
 use Rattle.lines.specs.Bodies.{line_code_lem}
 use Rattle.courses.specs.Meaning.{unrolled, cost, course_in, commands_in}
@@ -37,7 +37,6 @@ so_act (Home n) e = absurd (false≢true e)
 so_act (Set s n) e = absurd (false≢true e)
 so_act (Delay n) e = absurd (false≢true e)
 so_act (WaitInput n) e = wait n
-so_act Recover e = absurd (false≢true e)
 
 so_barred : (d : Command) → barred d ≡ true → Uncounted d
 unfolding command_of table find

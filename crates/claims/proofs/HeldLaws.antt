@@ -13,8 +13,7 @@ use Rattle.frames.specs.Receive.{ours}
 use Rattle.turns.specs.declared.Core.{Core}
 use Rattle.turns.specs.Turns.{started}
 use Rattle.obeying.specs.declared.Obeyed.{Obeyed}
-use Rattle.obeying.specs.Obeying.{loaded_as, body_obeyed}
-use Rattle.obeying.proofs.RoomLaws.{on_room}
+use Rattle.obeying.specs.Obeying.{loaded_as}
 use Rattle.obeying.specs.Deeds.{Obeys, refuses, tells, stores, clears, stops, resumes, speeds, again, loads}
 use Rattle.drive.specs.declared.Last.{Last}
 use Rattle.drive.specs.Unit.{Drive}
@@ -31,11 +30,9 @@ use Rattle.runs.proofs.CallLaws.{framed, feed-cases, feed-done, turn-cases, turn
 use Rattle.runs.proofs.ReachLaws.{reached-sound}
 use Rattle.runs.proofs.AstrayLaws.{never_astray}
 use Rattle.runs.proofs.EndLaws.{ends-exactly}
-use Rattle.claims.proofs.TurnLaws.{starts-good, starts-held}
-use Rattle.claims.specs.Bodies.{room_in}
+use Rattle.claims.proofs.TurnLaws.{starts-good, starts-held, idle}
 use Rattle.claims.specs.Demand1.{frame_code}
 use Rattle.claims.proofs.OrderLaws.{order_row}
-use Rattle.claims.proofs.JogLaws.{idles}
 
 -- ---- the held code
 
@@ -59,10 +56,10 @@ obeys_code {c = c} h (loads run n r l) z =
 idle_code : (u : Drive) (c : Call) → u.core.running ≡ false → (after c u).core.running ≡ false → (after c u).core.code ≡ u.core.code
 idle_code u (feed bytes image buffer) h =
     feed-cases u bytes image buffer (λ (text : List ℕ) (d : Core). d.running ≡ false → d.code ≡ u.core.code) (λ z. refl)
-    (λ d. obeys_code h (frame-does (received_by u bytes).frame (body_by u bytes) image u.core))
-idle_code u (turn sample ms steps count image) h =
-    turn-cases u sample ms steps count image (λ (t : Turning). t.unit.core.running ≡ false → t.unit.core.code ≡ u.core.code) (λ a z. refl)
-    (λ m z. ap (λ (v : Drive). v.core.code) (sym (turn_made u sample ms steps count image m)) ∙ (idles u sample ms steps count image h m).code_same)
+    (λ d. obeys_code h (frame-does (received_by u bytes).frame (body_by u bytes) u.core))
+idle_code u (turn sample ms steps image) h =
+    turn-cases u sample ms steps image (λ (t : Turning). t.unit.core.running ≡ false → t.unit.core.code ≡ u.core.code) (λ a z. refl)
+    (λ m z. ap (λ (v : Drive). v.core.code) (sym (turn_made u sample ms steps image m)) ∙ (idle u sample ms steps image h m).code_same)
 
 -- a unit that runs holds 0; one that has just stopped holds the code of the cause
 after-held : {u : Drive} (c : Call) → Reached u → Held u.core → Held (after c u).core
@@ -99,16 +96,13 @@ unfolding one_of each
 no_refusal k e = not-true _ (each-one (λ n. not (is_refusal n)) cause_codes k refl e)
 
 pub sets-number : {u : Drive} → Reached u → (bytes image buffer : List ℕ) (q : ℕ) → Heeded image buffer → ours (received_by u bytes).frame ≡ true
-    → (received_by u bytes).framing ≡ Framing.Oem q → frame_code u bytes ≡ 0
-    → room_in (body_by u bytes) image u.core ≡ true → (feed_of u bytes image buffer).unit.last ≡ Last.Number (sequence_number q)
-sets-number {u} r bytes image buffer q h f g k room =
-    let o : Obeyed = obeyed_by u bytes image in
-    let same : o ≡ body_obeyed (body_by u bytes) u.core =
-    framed (received_by u bytes).frame (body_by u bytes) image u.core f ∙ on_room (body_by u bytes) image u.core room in
+    → (received_by u bytes).framing ≡ Framing.Oem q → frame_code u bytes ≡ 0 → (feed_of u bytes image buffer).unit.last ≡ Last.Number (sequence_number q)
+sets-number {u} r bytes image buffer q h f g k =
+    let o : Obeyed = obeyed_by u bytes in
     let core : (feed_of u bytes image buffer).unit.core ≡ o.core =
     feed-done u bytes image buffer (record { buffer_right = h.buffer_right; image_right = h.image_right; frame-ours = f }) in
     let code : o.code ≡ o.core.code =
-    subst (λ (x : Obeyed). x.code ≡ x.core.code) (sym same) ((order_row (body_by u bytes) u.core).held k) in
+    subst (λ (x : Obeyed). x.code ≡ x.core.code) (sym (framed (received_by u bytes).frame (body_by u bytes) u.core f)) ((order_row (body_by u bytes) u.core).held k) in
     let held : one_of cause_codes o.code ≡ true =
     subst (λ (n : ℕ). one_of cause_codes n ≡ true) (sym (code ∙ sym (ap (λ (c : Core). c.code) core))) (held-code (called (feed bytes image buffer) r)) in
     numbers u bytes image buffer q h f g ∙ rw (no_refusal o.code held)

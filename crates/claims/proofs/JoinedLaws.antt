@@ -19,8 +19,7 @@ use Rattle.frames.specs.Addresses.{is_unit, unit_byte, called_of}
 use Rattle.frames.specs.Receive.{most_kept, body_in, ours, good}
 use Rattle.frames.specs.Claims.{Sound, Whole, free, frame_of, oem_of, sum_of, FrameClaims}
 use Rattle.obeying.specs.declared.Obeyed.{Obeyed}
-use Rattle.obeying.specs.Obeying.{obeyed_on}
-use Rattle.obeying.proofs.RoomLaws.{on-core, on_tell, on-text, on-image}
+use Rattle.obeying.specs.Obeying.{body_obeyed}
 use Rattle.drive.specs.declared.StartAnswer.{StartAnswer}
 use Rattle.drive.specs.Unit.{Drive}
 use Rattle.drive.specs.Calls.{Starting, fresh_unit, start_of, received_by, body_by, frame_obeyed, obeyed_by, answer_to, Feeding, feed_taken, feed_of, Turning}
@@ -33,9 +32,7 @@ use Rattle.runs.specs.Reach.{Call, feed, turn, after, Reached, fresh, called}
 use Rattle.runs.proofs.CallLaws.{turn-cases}
 use Rattle.runs.proofs.ReachLaws.{reached-keeps, reached-sound, reached_fit}
 use Rattle.runs.proofs.PacketLaws.{answer_is}
-use Rattle.claims.specs.Bodies.{core_by, room_in}
 use Rattle.claims.specs.Joined.{Typed, Typing, Joined}
-use Rattle.claims.proofs.StoreLaws.{on-running, on-flow}
 use Rattle.claims.proofs.HeldLaws.{held-code, sets-number}
 
 -- ---- the receiver and the number
@@ -59,7 +56,7 @@ module _ (frames : FrameClaims) where
     where
       P : Feeding → Type 0
       P r = Ready r.unit
-  call_ready u (turn sample ms steps count image) h = turn-cases u sample ms steps count image (λ (r : Turning). Ready r.unit) (λ a. h) (λ m. h)
+  call_ready u (turn sample ms steps image) h = turn-cases u sample ms steps image (λ (r : Turning). Ready r.unit) (λ a. h) (λ m. h)
 
   reached-ready : {u : Drive} → Reached u → Ready u
   unfolding fresh_unit
@@ -73,27 +70,23 @@ module _ (frames : FrameClaims) where
   module _ {u : Drive} (r : Reached u) (framing : Framing) (b bytes image buffer : List ℕ) (room : packet_bytes ≤ length buffer) (right : right_length image ≡ true)
       (alone : (received_by u bytes).frame ≡ Frame.Alone) (framed : (received_by u bytes).framing ≡ framing)
       (counts : (received_by u bytes).consumed ≡ length bytes) (chooses : body_by u bytes ≡ b) where
-    obeys : obeyed_by u bytes image ≡ obeyed_on b image u.core
-    obeys = ap (λ (f : Frame). frame_obeyed f (body_by u bytes) image u.core) alone ∙ ap (λ (x : List ℕ). obeyed_on x image u.core) chooses
+    obeys : obeyed_by u bytes ≡ body_obeyed b u.core
+    obeys = ap (λ (f : Frame). frame_obeyed f (body_by u bytes) u.core) alone ∙ ap (λ (x : List ℕ). body_obeyed x u.core) chooses
 
-    fed : feed_of u bytes image buffer ≡ feed_taken (received_by u bytes) (body_by u bytes) (obeyed_by u bytes image) u image buffer
+    fed : feed_of u bytes image buffer ≡ feed_taken (received_by u bytes) (body_by u bytes) (obeyed_by u bytes) u image buffer
     unfolding feed_of
     fed = rw (le-ltb (length buffer) packet_bytes room, right)
-
-    core-on : (feed_of u bytes image buffer).unit.core ≡ cond (room_in b image u.core) (core_by b u.core) u.core
-    core-on = ap (λ (f : Feeding). f.unit.core) fed ∙ ap (λ (o : Obeyed). o.core) obeys ∙ on-core b image u.core
 
     heard : Typed u framing b bytes image buffer (feed_of u bytes image buffer)
     unfolding answer_to
     heard = record {
       consumed = ap (λ (f : Feeding). f.consumed) fed ∙ counts;
-      core-left = λ room-there. core-on ∙ rw room-there;
-      core-kept = λ no_room. core-on ∙ rw no_room;
-      text-left = ap (λ (f : Feeding). f.unit.text) fed ∙ rw (obeys, chooses) (on-text b image u.core u.text);
-      image-left = ap (λ (f : Feeding). f.image) fed ∙ rw (obeys, chooses) (on-image b image u.core);
+      core-left = ap (λ (f : Feeding). f.unit.core) fed ∙ ap (λ (o : Obeyed). o.core) obeys;
+      text-left = ap (λ (f : Feeding). f.unit.text) fed ∙ rw (obeys, chooses);
+      image-left = ap (λ (f : Feeding). f.image) fed ∙ rw (obeys, chooses);
       answer =
           answer_is u bytes image buffer (record { buffer_right = room; image_right = right; frame-alone = alone }) (reached-sound r) (reached_fit r)
-          ∙ rw (obeys, chooses, framed, on-running b image u.core, on-flow b image u.core, on_tell b image u.core, on-text b image u.core u.text);
+          ∙ rw (obeys, chooses, framed);
     }
 
   module _ {u : Drive} (r : Reached u) where

@@ -1,11 +1,11 @@
 -- "Order of checks for a frame": what is obeyed has its tests in this order, and each kind of body has its code.
 -- Assumes nothing.
 use Prim.Native.Nat.{ℕ, zero, suc, ◌+◌, ◌≤◌, ◌<◌}
-use mathlib.Core.Path.{◌≡◌, refl, sym, ap, subst, ◌∙◌}
+use mathlib.Core.Path.{◌≡◌, refl, subst}
 use mathlib.Core.List.{List, [], ◌∷◌}
-use mathlib.Core.Bool.{Bool, true, false, cond, not, ◌&&◌, ◌||◌, and_false}
+use mathlib.Core.Bool.{Bool, true, false, cond, not, ◌&&◌, ◌||◌, and-false}
 use native.Mathlib.Omega.{arith}
-use native.Mathlib.Decide.{dec_lt, ℕ_discrete}
+use native.Mathlib.Decide.{dec_lt}
 use lib.ListN.{length}
 use lib.Dec.{ltb, eqb}
 use borrow.Author.Tests.{ltb-true, ltb-false, lt-ltb, le-ltb, eqb-true, eqb-false, ne_eqb, not-true}
@@ -26,18 +26,17 @@ use Rattle.lines.proofs.CodeLaws.{TakenCode, taken-code, codes}
 use Rattle.lines.proofs.FaultLaws.{place-there, place_none, place-most}
 use Rattle.motor.specs.Motion.{waits_input, is_endless}
 use Rattle.turns.specs.declared.Core.{Core}
-use Rattle.turns.specs.Turns.{jog_ended, with_endless}
+use Rattle.turns.specs.Turns.{with_endless}
 use Rattle.obeying.specs.Speed.{speed_line, speed_in}
 use Rattle.obeying.specs.declared.Tell.{Tell}
 use Rattle.obeying.specs.declared.Write.{Write}
 use Rattle.obeying.specs.declared.Obeyed.{Obeyed}
 use Rattle.obeying.specs.Obeying as obeying
 use Rattle.obeying.proofs.DeedLaws.{too_long}
-use Rattle.claims.specs.Order.{immediate, resuming, on_the_way, fault_in_order, code_in_order}
-use Rattle.claims.specs.Demand1.{place_data, StorePasses, OrderRow}
+use Rattle.claims.specs.Order.{immediate, resuming, on_the_way, fault_in_order}
+use Rattle.claims.specs.Demand1.{place_data, OrderRow}
 use Rattle.claims.proofs.ImmediateLaws.{by_immediate, only-empty}
 use Rattle.claims.proofs.WayLaws.{speedy_is, no_way}
-use Rattle.claims.proofs.StoreLaws.{passes-obeyed}
 
 -- a row of the order, for any fault and obeying
 record Right (c : Core) (f : Fault) (o : Obeyed) : Type 0 where
@@ -93,7 +92,7 @@ module _ (c : Core) where
   unfolding table.one_of each
   line_right (Taken.Refused f) e = refuses f (each-one (table.one_of (2 ∷ 3 ∷ 15 ∷ [])) (2 ∷ 3 ∷ []) f.code refl e)
   line_right (Taken.Line n run) e = obeys Tell.Nothing (Write.Text n) _
-  line_right (Taken.Store slot at n) e = obeys Tell.Nothing (Write.Store slot at n) (jog_ended c)
+  line_right (Taken.Store slot at n) e = obeys Tell.Nothing (Write.Store slot at n) c
 
   -- something obeyed, where a fault with the code 0 is told
   obeys_at : (f : Fault) → f.code ≡ 0 → (tell : Tell) (write : Write) (d : Core) → Right c f (obeying.obeyed d d.code tell write)
@@ -137,7 +136,7 @@ module _ (c : Core) where
     begins_right : begins_immediate b ≡ true → AsKind true (immediate b) (resuming c b || on_the_way c b) (immediate_in immediates b)
     unfolding table.one_of
     begins_right e =
-        by_immediate (λ m k. AsKind true m (resuming c b || on_the_way c b) k) b e (λ i. rw (and_false c.running) (immediate_right i)) (refuses (fault 2 1) refl)
+        by_immediate (λ m k. AsKind true m (resuming c b || on_the_way c b) k) b e (λ i. rw (and-false c.running) (immediate_right i)) (refuses (fault 2 1) refl)
 
     other_right : length b ≤ most_bytes → begins_immediate b ≡ false
         → AsKind false (same b []) ((same b (82 ∷ []) && waits_input c.motor.wait) || on_the_way c b) (other_of b)
@@ -146,7 +145,7 @@ module _ (c : Core) where
       where
         go : (e r x : Bool) → same b [] ≡ e → same b (82 ∷ []) ≡ r → same b (88 ∷ []) ≡ x
             → AsKind false e ((r && waits_input c.motor.wait) || on_the_way c b) (cond e Body.Empty (cond r Body.Run (cond x Body.Again Body.Line)))
-        go true r x p q s = rw (and_false c.running) (obeys Tell.Nothing Write.Nothing c)
+        go true r x p q s = rw (and-false c.running) (obeys Tell.Nothing Write.Nothing c)
         go false true x p q s = rw (no_way c b 82 q refl) (run_right c.running (waits_input c.motor.wait) _ _)
         go false false true p q s = rw (no_way c b 88 s refl) (again_right c.running _)
         go false false false p q s =
@@ -237,17 +236,6 @@ order-most b c =
     Most : Fault → Type 0
     Most f = f.place ≤ most_bytes + 1
 
--- what a refusal leaves to write is nothing, so what stores is not refused
-store-taken : (b : List ℕ) (c : Core) → ((code_in_order b c ≡ 0 → ⊥) → obeying.body_obeyed b c ≡ obeying.refused_at (fault_in_order b c) c)
-    → (slot at n : ℕ) → StorePasses b c slot at n → code_in_order b c ≡ 0
-store-taken b c refused slot at n s = go (ℕ_discrete (code_in_order b c) 0)
-  where
-    go : Dec (code_in_order b c ≡ 0) → code_in_order b c ≡ 0
-    go (yes e) = e
-    go (no ne) =
-        let w : Write.Store slot at n ≡ Write.Nothing = ap (λ (o : Obeyed). o.write) (sym (passes-obeyed s) ∙ refused ne) in
-        let z : ◌≡◌ {A = ℕ} 0 1 = cc in absurd (omega arith)
-
 -- every body gets the code that the order names, and the place
 pub order_row : (b : List ℕ) (c : Core) → OrderRow b c
 order_row b c =
@@ -258,6 +246,5 @@ order_row b c =
       placed = λ m e. (order-placed b c m).inside e;
       no_place = order_nowhere b c;
       three_digits = place_digits (fault_in_order b c).place (order-most b c);
-      store-passes = store-taken b c h.refused;
       held = h.held;
     }

@@ -98,6 +98,6 @@ module _ (defined make : ℕ → List ℕ → List ℕ) (read : List ℕ → Pac
 
 pub packet-row : AnswerClaims → PacketRow
 packet-row a = record {
-  in-plain = reads packet plain read_of plain_so (λ s d. refl) a a.reads-back a.nothing_else a.refused-zeros;
-  in-oem = reads oem_packet oem_summed read_oem_of summed_so (λ s d. refl) a a.reads-back-oem a.nothing_else_oem a.refused-zeros-oem;
+  in-plain = reads packet plain read_of plain_so (λ s d. refl) a a.reads_back a.nothing_else a.refused-zeros;
+  in-oem = reads oem_packet oem_summed read_oem_of summed_so (λ s d. refl) a a.reads_back_oem a.nothing_else_oem a.refused-zeros-oem;
 }

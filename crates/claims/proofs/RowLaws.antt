@@ -4,17 +4,14 @@ use Prim.Native.Nat.{ℕ, zero, suc, ◌≤◌}
 use Prim.Native.String.{String}
 use mathlib.Core.Path.{◌≡◌, refl, sym, ap, ◌∙◌}
 use mathlib.Core.List.{List, [], ◌∷◌, ◌++◌}
-use mathlib.Core.Bool.{Bool, true, false, not, ◌||◌, and-eq-true_iff}
+use mathlib.Core.Bool.{Bool, true, false, ◌||◌, and-eq-true_iff}
 use native.Mathlib.Omega.{arith}
-use lib.IntN.{ℤ}
 use lib.ListN.{length, drop}
 use lib.Dec.{eqb}
-use borrow.Author.Tests.{lt-ltb, le-ltb, le-leb, ne_eqb}
+use borrow.Author.Tests.{lt-ltb, le-ltb, le-leb, eq_eqb, ne_eqb}
 use Rattle.parts.specs.Parts.{put_in, most_bytes}
 use Rattle.parts.proofs.Laws.{put_front, put_in_room}
 use Rattle.digits.specs.Operand.{operand_most, few_digits}
-use Rattle.commands.specs.declared.Fault.{Fault}
-use Rattle.commands.specs.Reading.{fault}
 use Rattle.commands.specs.Table as table
 use Rattle.commands.proofs.TableLaws.{each, each-one}
 use Rattle.lines.specs.Texts.{text_good, older_good}
@@ -28,8 +25,7 @@ use Rattle.ramp.specs.declared.Verdict.{Verdict}
 use Rattle.ramp.specs.declared.Verdict.TheVariants.{Taken, RefusedV, RefusedL, RefusedN}
 use Rattle.ramp.specs.Ramp.{figures_of, verdict_name}
 use Rattle.ramp.specs.Claims.{When, Verdicts}
-use Rattle.obeying.specs.Obeying as obeying
-use Rattle.obeying.specs.Obeying.{place_told, data_of, held_to, obeyed_on}
+use Rattle.obeying.specs.Obeying.{place_told, data_of}
 use Rattle.turns.specs.Turns.{fresh_core}
 use Rattle.drive.specs.Unit.{Drive}
 use Rattle.drive.specs.declared.Last.{Last}
@@ -41,10 +37,9 @@ use Rattle.drive.specs.Names.{start_name, feed_name, turn_name}
 use Rattle.drive.specs.Calls.{no_unit, fresh_unit, starting, start_of, received_by, body_by, packet_as, answer_to, feed_refused, feed_of, turn_refused, turn_of}
 use Rattle.drive.proofs.AnswerLaws.{packet-fits}
 use Rattle.drive.proofs.FeedLaws.{put-nothing}
-use Rattle.claims.specs.Images.{EverySlot, EveryPacked, EitherLength, ImageSo, big_image_lem, small-image, RoomThere}
-use Rattle.claims.specs.Demand1.{From, StartRefused, StartRow, FrameRefused, frame_fault, frame_code, place_data, refusal_packet, StorePasses, FeedRefused, FeedRow, OrderRow, TurnRefused, TurnRow, RampRefused, RampRow}
-use Rattle.claims.proofs.ImageLaws.{either_right, neither_right, so_right, so_image, not-image, no_may}
-use Rattle.claims.proofs.StoreLaws.{passes-slot, no_room-obeyed}
+use Rattle.claims.specs.Images.{EverySlot}
+use Rattle.claims.specs.Demand1.{From, StartRefused, StartRow, FrameRefused, frame_fault, frame_code, place_data, refusal_packet, FeedRefused, FeedRow, OrderRow, TurnRefused, TurnRow, RampRefused, RampRow}
+use Rattle.claims.proofs.ImageLaws.{so_every, not_every}
 use Rattle.claims.proofs.OrderLaws.{order_row}
 
 -- ---- start
@@ -68,16 +63,6 @@ slots-before image h k l =
     let g = h k l in
     record { start = g.start; fits = g.fits; passes = before _ g.passes; unused = g.unused }
 
-packed-before : (image : List ℕ) → EveryPacked text_good image → EveryPacked older_good image
-packed-before image h = record {
-  each = λ k l. let g = h.each k l in record { start = g.start; fits = g.fits; ends = g.ends; passes = before _ g.passes };
-  unused = h.unused;
-}
-
-image-before : (image : List ℕ) → ImageSo text_good image → ImageSo older_good image
-image-before image (big_image_lem l h) = big_image_lem l (slots-before image h)
-image-before image (small-image l h) = small-image l (packed-before image h)
-
 module _ (name : String) (a : StartAnswer) (body text : List ℕ) where
   refused-start : start_name a ≡ name → StartRefused name body text (starting a (no_unit body text))
   unfolding no_unit fresh_core
@@ -87,10 +72,10 @@ pub start-row : (number : ℕ) (image body text : List ℕ) → StartRow number 
 unfolding start_of fresh_unit
 start-row number image body text = record {
   unit-number = λ n. rw (from_no_unit number n) (refused-start _ StartAnswer.UnitNumber body text refl);
-  image-length = λ n l. rw (from-unit number n, neither_right image l) (refused-start _ StartAnswer.ImageLength body text refl);
-  image-bad = λ n l g. rw (from-unit number n, either_right image l, not-image image most_bytes l g) (refused-start _ StartAnswer.ImageBad body text refl);
-  started = λ n g. rw (from-unit number n, either_right image (so_right image older_good g), so_image image most_bytes g) (refl, refl);
-  good-starts = λ n g. rw (from-unit number n, either_right image (so_right image text_good g), so_image image most_bytes (image-before image g));
+  image-length = λ n l. rw (from-unit number n, ne_eqb (length image) 4160 l) (refused-start _ StartAnswer.ImageLength body text refl);
+  image-bad = λ n l g. rw (from-unit number n, eq_eqb (length image) 4160 l, not_every most_bytes image l g) (refused-start _ StartAnswer.ImageBad body text refl);
+  started = λ n l g. rw (from-unit number n, eq_eqb (length image) 4160 l, so_every most_bytes image l g) (refl, refl);
+  good-starts = λ n l g. rw (from-unit number n, eq_eqb (length image) 4160 l, so_every most_bytes image l (slots-before image g));
 }
 
 -- ---- turn
@@ -98,15 +83,15 @@ start-row number image body text = record {
 refused-turn : (name : String) (a : TurnAnswer) (u : Drive) → turn_name a ≡ name → TurnRefused name u (turn_refused a u)
 refused-turn name a u e = record { named = e; unit-same = refl; no_direction = refl; number_0 = refl }
 
-pub turn-row : (u : Drive) (sample ms steps : ℕ) (count : ℤ) (image : List ℕ) → TurnRow u sample ms steps count image
+pub turn-row : (u : Drive) (sample ms steps : ℕ) (image : List ℕ) → TurnRow u sample ms steps image
 unfolding turn_of
-turn-row u sample ms steps count image =
+turn-row u sample ms steps image =
     let last : ℕ = u.core.motor.last.number in
     record {
-      image-length = λ l. rw (neither_right image l) (refused-turn _ TurnAnswer.ImageLength u refl);
-      sample-high = λ l s. rw (either_right image l, lt-ltb 15 sample s) (refused-turn _ TurnAnswer.Sample u refl);
-      steps-many = λ l s m. rw (either_right image l, le-ltb 15 sample s, lt-ltb last steps m) (refused-turn _ TurnAnswer.Steps u refl);
-      taken = λ l s m. rw (either_right image l, le-ltb 15 sample s, le-ltb last steps m);
+      image-length = λ l. rw (ne_eqb (length image) 4160 l) (refused-turn _ TurnAnswer.ImageLength u refl);
+      sample-high = λ l s. rw (eq_eqb (length image) 4160 l, lt-ltb 15 sample s) (refused-turn _ TurnAnswer.Sample u refl);
+      steps-many = λ l s m. rw (eq_eqb (length image) 4160 l, le-ltb 15 sample s, lt-ltb last steps m) (refused-turn _ TurnAnswer.Steps u refl);
+      taken = λ l s m. rw (eq_eqb (length image) 4160 l, le-ltb 15 sample s, le-ltb last steps m);
     }
 
 -- ---- ramp
@@ -154,55 +139,35 @@ refused-last : (g : Framing) (k : ℕ) (last : Last) → is_refusal k ≡ true �
 refused-last Framing.Plain k last e = refl
 refused-last (Framing.Oem q) k last e = rw e
 
--- a frame that the checks of 01 refuse
-module _ (u : Drive) (bytes image : List ℕ) where
-  abbrev row : OrderRow (body_by u bytes) u.core
-  row = order_row (body_by u bytes) u.core
-
-  faulty : (frame_code u bytes ≡ 0 → ⊥) → obeyed_on (body_by u bytes) image u.core ≡ obeying.refused_at (frame_fault u bytes) u.core
-  faulty n = ap (held_to (body_by u bytes) image u.core) (row.refused n)
-
-  coded : (frame_code u bytes ≡ 0 → ⊥) → is_refusal (frame_code u bytes) ≡ true
-  coded n = refusal (frame_code u bytes) row.codes n
-
-  few_digits_lem : length (place_data (frame_fault u bytes).place) ≤ 3
-  few_digits_lem = row.three_digits
-
 module _ (u : Drive) (bytes image buffer : List ℕ) where
-  module _ (l : 262 ≤ length buffer) (w : EitherLength image) where
+  module _ (l : 262 ≤ length buffer) (w : length image ≡ 4160) where
     group-silent : (received_by u bytes).frame ≡ Frame.Group → ((feed_of u bytes image buffer).answered ≡ 0) × ((feed_of u bytes image buffer).buffer ≡ buffer)
     unfolding feed_of
-    group-silent f = rw (le-ltb (length buffer) 262 l, either_right image w, f) (refl, put-nothing buffer)
+    group-silent f = rw (le-ltb (length buffer) 262 l, eq_eqb (length image) 4160 w, f) (refl, put-nothing buffer)
 
-    -- a frame that is refused for a fault, whichever check finds it
-    module _ (why : Fault) (refused : obeyed_on (body_by u bytes) image u.core ≡ obeying.refused_at why u.core) (few : length (place_data why.place) ≤ 3)
-        (code : is_refusal why.code ≡ true) where
-      frame_refused : (received_by u bytes).frame ≡ Frame.Alone → FrameRefused u bytes image buffer (refusal_packet u (received_by u bytes).framing why)
+    module _ (h : OrderRow (body_by u bytes) u.core) where
+      frame_refused : (received_by u bytes).frame ≡ Frame.Alone → (frame_code u bytes ≡ 0 → ⊥)
+          → FrameRefused u bytes image buffer (refusal_packet u (received_by u bytes).framing (frame_fault u bytes))
       unfolding feed_of answer_to
-      frame_refused f =
+      frame_refused f n =
           let g = (received_by u bytes).framing in
-          rw (le-ltb (length buffer) 262 l, either_right image w, f, refused, told-place _ _ _, front g _ _ buffer few l, refused-last g why.code u.last code)
+          let same = refused-last g (frame_code u bytes) u.last (refusal (frame_code u bytes) h.codes n) in
+          rw (le-ltb (length buffer) 262 l, eq_eqb (length image) 4160 w, f, h.refused n, told-place _ _ _, front g _ _ buffer h.three_digits l, same)
 
-      group-refused : (received_by u bytes).frame ≡ Frame.Group → FrameRefused u bytes image buffer []
+      group-refused : (received_by u bytes).frame ≡ Frame.Group → (frame_code u bytes ≡ 0 → ⊥) → FrameRefused u bytes image buffer []
       unfolding feed_of
-      group-refused f =
+      group-refused f n =
           let g = (received_by u bytes).framing in
-          rw (le-ltb (length buffer) 262 l, either_right image w, f, refused, put-nothing buffer, refused-last g why.code u.last code)
-
-    -- 02, E7: a store that there is no room for
-    no_room : {slot at n : ℕ} → StorePasses (body_by u bytes) u.core slot at n → (RoomThere image slot n → ⊥)
-        → obeyed_on (body_by u bytes) image u.core ≡ obeying.refused 15 u.core
-    no_room {slot} {at} {n} s none = no_room-obeyed s image (either_right image w) (no_may image slot n w (passes-slot s) none)
+          let same = refused-last g (frame_code u bytes) u.last (refusal (frame_code u bytes) h.codes n) in
+          rw (le-ltb (length buffer) 262 l, eq_eqb (length image) 4160 w, f, h.refused n, put-nothing buffer, same)
 
   pub feed_row : FeedRow u bytes image buffer
   unfolding feed_of
   feed_row = record {
     buffer-short = λ l. rw (lt-ltb (length buffer) 262 l) (refused-feed _ FeedAnswer.BufferShort u image buffer refl);
-    image-length = λ l w. rw (le-ltb (length buffer) 262 l, neither_right image w) (refused-feed _ FeedAnswer.ImageLength u image buffer refl);
-    taken = λ l w. rw (le-ltb (length buffer) 262 l, either_right image w);
+    image-length = λ l w. rw (le-ltb (length buffer) 262 l, ne_eqb (length image) 4160 w) (refused-feed _ FeedAnswer.ImageLength u image buffer refl);
+    taken = λ l w. rw (le-ltb (length buffer) 262 l, eq_eqb (length image) 4160 w);
     group-silent = group-silent;
-    frame_refused = λ l w f n. frame_refused l w (frame_fault u bytes) (faulty u bytes image n) (few_digits_lem u bytes image) (coded u bytes image n) f;
-    group-refused = λ l w f n. group-refused l w (frame_fault u bytes) (faulty u bytes image n) (few_digits_lem u bytes image) (coded u bytes image n) f;
-    store-refused = λ l w f slot at n s none. frame_refused l w (fault 15 0) (no_room l w s none) (omega arith) refl f;
-    group-store-refused = λ l w f slot at n s none. group-refused l w (fault 15 0) (no_room l w s none) (omega arith) refl f;
+    frame_refused = λ l w. frame_refused l w (order_row (body_by u bytes) u.core);
+    group-refused = λ l w. group-refused l w (order_row (body_by u bytes) u.core);
   }

@@ -2,9 +2,8 @@
 use Prim.Native.Nat.{ℕ, ◌+◌, ◌-◌, ◌≤◌}
 use mathlib.Core.Path.{◌≡◌, refl, sym, ap, subst, ◌∙◌}
 use mathlib.Core.List.{List, [], ◌∷◌}
-use mathlib.Core.Bool.{Bool, true, false, and-eq-true_iff, false≢true}
+use mathlib.Core.Bool.{Bool, true, false, cond, and-eq-true_iff, false≢true}
 use native.Mathlib.Omega.{arith}
-use lib.IntN.{ℤ}
 use lib.ListN.{length, replicate, length-append, length-replicate}
 use lib.Seq.{get_or_at}
 use lib.Dec.{leb, eqb}
@@ -20,11 +19,11 @@ use Rattle.digits.proofs.ReadBack.{read_back, read_limited}
 use Rattle.commands.specs.declared.Command.{Command}
 use Rattle.commands.specs.declared.Command.TheVariants.{LoopBegin, LoopEnd, Skip, Jump, Plain}
 use Rattle.commands.specs.declared.Act.{Act}
-use Rattle.commands.specs.declared.Act.TheVariants.{MoveTo, MoveUp, MoveDown, SetPosition, Home, Set, Delay, WaitInput, Recover}
+use Rattle.commands.specs.declared.Act.TheVariants.{MoveTo, MoveUp, MoveDown, SetPosition, Home, Set, Delay, WaitInput}
 use Rattle.commands.specs.declared.Setting.TheVariants.{TopSpeed}
 use Rattle.commands.specs.declared.Read.{Read}
 use Rattle.commands.specs.declared.Read.TheVariants.{At, Bad, End}
-use Rattle.commands.specs.Table.{one, one_of, table, find, asks_of, command_of, within}
+use Rattle.commands.specs.Table.{one_of, table, find, asks_of, command_of, within}
 use Rattle.commands.specs.Reading.{read_at}
 use Rattle.commands.specs.Writing.{in_range}
 use Rattle.lines.specs.declared.Body.{Body}
@@ -36,19 +35,16 @@ use Rattle.motor.specs.declared.Wait.{Wait}
 use Rattle.motor.specs.declared.Motor.{Motor}
 use Rattle.motor.specs.declared.Moved.{Moved}
 use Rattle.motor.specs.declared.Moved.TheVariants.{Goes, Stops}
-use Rattle.motor.specs.declared.Switches.{Switches}
-use Rattle.motor.specs.Jogs.{unless_limited, home_taken}
 use Rattle.motor.specs.Inputs.{level_there}
-use Rattle.motor.specs.Motion.{is_free, is_endless, reported, relative}
-use Rattle.motor.specs.Corrections.{if_ready, absolute_taken, relative_taken, place_taken, served_on}
+use Rattle.motor.specs.Motion.{is_free, is_endless, reported, relative, absolute, if_known, served}
 use Rattle.turns.specs.declared.Core.{Core}
 use Rattle.turns.specs.declared.Stepped.{Stepped}
-use Rattle.turns.specs.Turns.{switches_of, with_flow, with_motor, with_endless, started, ended, astray, moved, speed_after, acted, flowed, skipped, jumped, skip_taken, command_taken, read_taken, step_of, turn_core}
+use Rattle.turns.specs.Turns.{with_flow, with_motor, with_endless, started, ended, astray, moved, speed_after, acted, flowed, skipped, jumped, skip_taken, command_taken, read_taken, step_of, turn_core}
 use Rattle.turns.specs.Ends.{Reads}
-use Rattle.turns.proofs.TurnLaws.{at-command, at-wait}
+use Rattle.turns.proofs.TurnLaws.{at_command, at_wait}
 use Rattle.obeying.specs.declared.Obeyed.{Obeyed}
 use Rattle.obeying.specs.Speed.{speed_line, operand_end}
-use Rattle.obeying.specs.Obeying.{loaded_as, refused, silent, body_obeyed, held_to, obeyed_on}
+use Rattle.obeying.specs.Obeying.{loaded_as, refused, silent, body_obeyed}
 use Rattle.obeying.specs.Deeds.{Speeds, Obeys, refuses, tells, stores, clears, stops, resumes, speeds, again, loads}
 use Rattle.obeying.proofs.SpeedLaws.{speed-code}
 use Rattle.drive.specs.Unit.{Drive}
@@ -62,7 +58,6 @@ use Rattle.runs.proofs.CommandLaws.{turned}
 use Rattle.claims.specs.Bodies.{data_by, Turns-to}
 use Rattle.claims.specs.Speed as speed
 use Rattle.claims.specs.Speed.{speed_body, OnTheWay, Sped, Relative, SetBy, on_the_way_lem, from_v, Unset, none, more}
-use Rattle.claims.proofs.EncoderLaws.{endless-plain}
 use Rattle.claims.proofs.BodyLaws.{turns_to, each-body}
 
 -- ---- such a line on the way
@@ -76,8 +71,6 @@ endless-wait (Wait.LegAway left n) e = absurd (false≢true e)
 endless-wait (Wait.LegToward left) e = absurd (false≢true e)
 endless-wait (Wait.Delay left) e = absurd (false≢true e)
 endless-wait (Wait.Input digits) e = absurd (false≢true e)
-endless-wait (Wait.Jog up left) e = absurd (false≢true e)
-endless-wait (Wait.Try up left made) e = absurd (false≢true e)
 
 -- the range of `V`
 in-range : (n : ℕ) → in_range (Plain (Set TopSpeed n)) ≡ true → (1 ≤ n) × (n ≤ 16777216)
@@ -161,7 +154,7 @@ module _ (u : Drive) (bytes image buffer : List ℕ) (never : (n : ℕ) → SetB
   feed-stays : (after (feed bytes image buffer) u).core.endless ≡ u.core.endless
   feed-stays =
       feed-cases u bytes image buffer (λ (text : List ℕ) (c : Core). c.endless ≡ u.core.endless) refl
-      (λ d. obeys_stays d (frame-does (received_by u bytes).frame (body_by u bytes) image u.core))
+      (λ d. obeys_stays d (frame-does (received_by u bytes).frame (body_by u bytes) u.core))
 
 -- ---- a turn
 
@@ -175,27 +168,15 @@ after-stays : (n : ℕ) (r : Moved) (c : Core) → (n ≡ 0 → (m : Motor) → 
 after-stays n (Goes m) c h = cases (λ (k : ℕ). k ≡ c.endless) (eqb n 0) (λ q. absurd (h (eqb-true n 0 q) m refl)) (λ q. refl)
 after-stays n (Stops k) c h = refl
 
--- what goes on was ready
-ready-goes : (m a : Motor) (r : Moved) → if_ready m r ≡ Goes a → (m.overload ≡ false) × (m.known ≡ true)
-ready-goes m a r = go m.overload refl m.known refl
+known-goes : (m a : Motor) (r : Moved) → if_known m r ≡ Goes a → m.known ≡ true
+known-goes m a r = go m.known refl
   where
-    go : (o : Bool) → m.overload ≡ o → (k : Bool) → m.known ≡ k → if_ready m r ≡ Goes a → (m.overload ≡ false) × (m.known ≡ true)
-    go false o true k e = (o, k)
-    go true o k q e = let z : Stops 9 ≡ Goes a = rw o at e in let y : ◌≡◌ {A = ℕ} 0 1 = cc in absurd (omega arith)
-    go false o false k e = let z : Stops 7 ≡ Goes a = rw (o, k) at e in let y : ◌≡◌ {A = ℕ} 0 1 = cc in absurd (omega arith)
+    go : (k : Bool) → m.known ≡ k → cond m.known r (Stops 7) ≡ Goes a → m.known ≡ true
+    go true q e = q
+    go false q e = let z : Stops 7 ≡ Goes a = rw q at e in let y : ◌≡◌ {A = ℕ} 0 1 = cc in absurd (omega arith)
 
--- what a limit lets go on goes on without it
-still_goes : (s : Switches) (r : Moved) (a : Motor) → unless_limited s r ≡ Goes a → (b : Motor) × (r ≡ Goes b)
-unfolding unless_limited
-still_goes s (Goes b) a e = (b, refl)
-still_goes s (Stops k) a e = let y : ◌≡◌ {A = ℕ} 0 1 = cc in absurd (omega arith)
-
-relative-ready : (s : Switches) (up : Bool) (n : ℕ) (m a : Motor) → relative_taken s up n m ≡ Goes a → (m.overload ≡ false) × (m.known ≡ true)
-unfolding relative_taken
-relative-ready s up n m a e = let i = still_goes s _ a e in ready-goes m i.0 _ i.1
-
-module _ (u : Drive) (sample ms steps : ℕ) (count : ℤ) (image : List ℕ) (m : Made u sample steps image)
-    (never : (n : ℕ) → SetBy u (turn sample ms steps count image) n → ⊥) where
+module _ (u : Drive) (sample ms steps : ℕ) (image : List ℕ) (m : Made u sample steps image)
+    (never : (n : ℕ) → SetBy u (turn sample ms steps image) n → ⊥) where
   abbrev t : List ℕ
   t = text_of u
 
@@ -203,30 +184,28 @@ module _ (u : Drive) (sample ms steps : ℕ) (count : ℤ) (image : List ℕ) (m
   c = u.core
 
   abbrev then : Core
-  then = with_motor (reported sample steps count c.motor) c
+  then = with_motor (reported sample steps c.motor) c
 
   abbrev Stays : Core → Type 0
   Stays d = d.endless ≡ c.endless
 
-  relative-stays : (l n next : ℕ) (up : Bool) → Relative l → c.running ≡ true → Reads t c (At (command_of (one l) n) next)
-      → speed_after n (relative_taken (switches_of c) up n then.motor) (with_flow (gone next c.flow) then) ≡ c.endless
+  relative-stays : (l n next : ℕ) (r : Moved) → Relative l → c.running ≡ true → Reads t c (At (command_of l n) next)
+      → speed_after n (if_known then.motor r) (with_flow (gone next c.flow) then) ≡ c.endless
   unfolding reported
-  relative-stays l n next up p run e =
-      after-stays n (relative_taken (switches_of c) up n then.motor) (with_flow (gone next c.flow) then)
-      (λ z a g. let i = relative-ready (switches_of c) up n then.motor a g in
-      never c.settings.speed (from_v m run p (next, subst (λ (k : ℕ). Reads t c (At (command_of (one l) k) next)) z e) i.0 i.1))
+  relative-stays l n next r p run e =
+      after-stays n (if_known then.motor r) (with_flow (gone next c.flow) then)
+      (λ z a g. never c.settings.speed (from_v m run p (next, subst (λ (k : ℕ). Reads t c (At (command_of l k) next)) z e) (known-goes then.motor a r g)))
 
   act_stays : (a : Act) (next : ℕ) → c.running ≡ true → Reads t c (At (Plain a) next) → Stays (acted a (with_flow (gone next c.flow) then))
   unfolding acted command_of find table
-  act_stays (MoveTo n) next run e = moved-endless (absolute_taken (switches_of c) n then.motor) (with_flow (gone next c.flow) then)
-  act_stays (MoveUp n) next run e = relative-stays 80 n next true speed.up run e
-  act_stays (MoveDown n) next run e = relative-stays 68 n next false speed.down run e
-  act_stays (SetPosition n) next run e = moved-endless (place_taken (switches_of c) n then.motor) (with_flow (gone next c.flow) then)
-  act_stays (Home n) next run e = moved-endless (home_taken (switches_of c) n then.motor) (with_flow (gone next c.flow) then)
+  act_stays (MoveTo n) next run e = moved-endless (if_known then.motor (absolute n then.motor)) (with_flow (gone next c.flow) then)
+  act_stays (MoveUp n) next run e = relative-stays 80 n next (relative true n then.motor) speed.up run e
+  act_stays (MoveDown n) next run e = relative-stays 68 n next (relative false n then.motor) speed.down run e
+  act_stays (SetPosition n) next run e = refl
+  act_stays (Home n) next run e = refl
   act_stays (Set which n) next run e = refl
   act_stays (Delay n) next run e = refl
   act_stays (WaitInput n) next run e = refl
-  act_stays Recover next run e = refl
 
   flow-stays : (f : Flowed) → Stays (flowed f then)
   unfolding astray ended
@@ -258,37 +237,37 @@ module _ (u : Drive) (sample ms steps : ℕ) (count : ℤ) (image : List ℕ) (m
   abbrev After : Stepped → Type 0
   After s = Stays s.core
 
-  step_stays : After (step_of sample ms steps count t image c)
+  step_stays : After (step_of sample ms steps t image c)
   unfolding step_of
   step_stays = go c.running refl (is_free c.motor.wait) refl
     where
-      go : (r : Bool) → c.running ≡ r → (b : Bool) → is_free c.motor.wait ≡ b → After (step_of sample ms steps count t image c)
+      go : (r : Bool) → c.running ≡ r → (b : Bool) → is_free c.motor.wait ≡ b → After (step_of sample ms steps t image c)
       go false r b q = rw r refl
       go true r true q =
           let e : Reads t c (read_at t c.flow.at) = record { free = free c.motor.wait q; stands = refl } in
-          subst After (sym (at-command sample ms steps count t image c r (read_at t c.flow.at) e)) (read_stays (read_at t c.flow.at) r e)
+          subst After (sym (at_command sample ms steps t image c r (read_at t c.flow.at) e)) (read_stays (read_at t c.flow.at) r e)
       go true r false q =
-          subst After (sym (at-wait sample ms steps count t image c r c.motor.wait refl q))
-          (moved-endless (served_on c.motor.wait c.motor.sample (switches_of c) ms steps then.motor) then)
+          subst After (sym (at_wait sample ms steps t image c r c.motor.wait refl q))
+          (moved-endless (served c.motor.wait c.motor.sample c.settings.flag ms steps then.motor) then)
 
 -- ---- each call
 
 pub stays : (u : Drive) (c : Call) → ((n : ℕ) → SetBy u c n → ⊥) → (after c u).core.endless ≡ u.core.endless
 unfolding turn_core
 stays u (feed bytes image buffer) never = feed-stays u bytes image buffer never
-stays u (turn sample ms steps count image) never =
-    turn-cases u sample ms steps count image (λ (r : Turning). r.unit.core.endless ≡ u.core.endless) (λ a. refl) (λ m. step_stays u sample ms steps count image m never)
+stays u (turn sample ms steps image) never =
+    turn-cases u sample ms steps image (λ (r : Turning). r.unit.core.endless ≡ u.core.endless) (λ a. refl) (λ m. step_stays u sample ms steps image m never)
 
 pub sets : (u : Drive) (c : Call) (n : ℕ) → SetBy u c n → (after c u).core.endless ≡ n
-unfolding command_taken acted command_of find table relative reported unless_limited
+unfolding command_taken acted command_of find table relative reported
 sets u c n (on_the_way_lem {bytes} {image} {buffer} zeros k h w) =
     let d = feed-done u bytes image buffer (record { buffer_right = h.buffer_right; image_right = h.image_right; frame-ours = h.frame-ours }) in
-    let f = framed (received_by u bytes).frame (body_by u bytes) image u.core h.frame-ours in
-    ap (λ (x : Core). x.endless) d ∙ ap (λ (o : Obeyed). o.core.endless) (f ∙ ap (λ (x : List ℕ). obeyed_on x image u.core) h.body_is ∙ ap (held_to (speed_body zeros k) image u.core) (line-obeyed w))
-sets u c n (from_v {sample} {ms} {steps} {count = count} {image = image} m run speed.up (next, r) o k) =
-    ap (λ (v : Drive). v.core.endless) (turned u run sample ms steps count image m (command_of (one 80) 0) next r) ∙ rw (endless-plain (switches_of u.core) (reported sample steps count u.core.motor) true, o, k)
-sets u c n (from_v {sample} {ms} {steps} {count = count} {image = image} m run speed.down (next, r) o k) =
-    ap (λ (v : Drive). v.core.endless) (turned u run sample ms steps count image m (command_of (one 68) 0) next r) ∙ rw (endless-plain (switches_of u.core) (reported sample steps count u.core.motor) false, o, k)
+    let f = framed (received_by u bytes).frame (body_by u bytes) u.core h.frame-ours in
+    ap (λ (x : Core). x.endless) d ∙ ap (λ (o : Obeyed). o.core.endless) (f ∙ ap (λ (x : List ℕ). body_obeyed x u.core) h.body_is ∙ line-obeyed w)
+sets u c n (from_v {sample} {ms} {steps} {image = image} m run speed.up (next, r) k) =
+    ap (λ (v : Drive). v.core.endless) (turned u run sample ms steps image m (command_of 80 0) next r) ∙ rw k
+sets u c n (from_v {sample} {ms} {steps} {image = image} m run speed.down (next, r) k) =
+    ap (λ (v : Drive). v.core.endless) (turned u run sample ms steps image m (command_of 68 0) next r) ∙ rw k
 
 pub only : (c : Core) (text image : List ℕ) (zeros n : ℕ) → OnTheWay c zeros n → Turns-to (Sped n) (speed_body zeros n) c text image
 only c text image zeros n w =

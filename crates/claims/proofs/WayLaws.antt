@@ -2,7 +2,7 @@
 use Prim.Native.Nat.{ℕ, suc, ◌+◌, ◌-◌}
 use mathlib.Core.Path.{◌≡◌, refl, sym, ap, ◌∙◌}
 use mathlib.Core.List.{List, [], ◌∷◌}
-use mathlib.Core.Bool.{Bool, true, false, ◌&&◌, and-true, and_false, and-eq-true_iff, false≢true}
+use mathlib.Core.Bool.{Bool, true, false, ◌&&◌, and-true, and-false, and-eq-true_iff, false≢true}
 use native.Mathlib.Omega.{arith}
 use lib.ListN.{length, get_or}
 use lib.Dec.{leb, eqb}
@@ -39,7 +39,7 @@ then-r x (y ∷ ys) = go (is_digit y) refl (then-r y ys)
   where
     alone : (zs : List ℕ) → same (y ∷ zs) (bytes "R") ≡ (eqb 1 (length (y ∷ zs)) && eqb (get_or (y ∷ zs) (length zs) 0) 82)
     alone [] = and-true (eqb y 82)
-    alone (z ∷ zs) = rw (and_false (eqb y 82), ne_eqb 1 (length (y ∷ (z ∷ zs))) (λ e. omega arith))
+    alone (z ∷ zs) = rw (and-false (eqb y 82), ne_eqb 1 (length (y ∷ (z ∷ zs))) (λ e. omega arith))
 
     go : (d : Bool) → is_digit y ≡ d → digits_then_r ys ≡ (eqb (1 + length (digit_run ys)) (length ys) && eqb (get_or (y ∷ ys) (length ys) 0) 82)
         → digits_then_r (y ∷ ys) ≡ (eqb (1 + length (digit_run (y ∷ ys))) (length (y ∷ ys)) && eqb (get_or (x ∷ (y ∷ ys)) (length (y ∷ ys)) 0) 82)
@@ -59,4 +59,4 @@ unfolding on_the_way speedy same
 no_way c [] k e f = absurd (false≢true e)
 no_way c (x ∷ xs) k e f =
     let q : x ≡ k = eqb-true x k ((and-eq-true_iff (eqb x k) (same xs [])).0 e).0 in
-    rw (q, f) (and_false (is_endless c.motor.wait))
+    rw (q, f) (and-false (is_endless c.motor.wait))

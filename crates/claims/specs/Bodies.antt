@@ -1,17 +1,13 @@
 -- What each body makes of a unit, idle or running: its core, the current text, the image, and what is told. 01, "Lines" and "What comes back".
 -- Assumes nothing.
-use Rattle.std.specs.Prelude.{ℕ, ◌^◌, ◌≤◌, ◌≡◌, List, [], Bool, true, false, cond, length, take}
+use Rattle.std.specs.Prelude.{ℕ, ◌^◌, ◌≤◌, ◌≡◌, List, [], Bool, true, false, cond, take}
 use Rattle.digits.specs.Decimal.{decimal}
 use Rattle.parts.specs.Letters.{bytes}
-use Rattle.big.specs.Big.{big_empty}
-use Rattle.small.specs.Small.{small_empty}
+use Rattle.image.specs.Image.{right_length, empty_image}
 use Rattle.motor.specs.declared.Wait.{Wait}
-use Rattle.motor.specs.declared.Wait.TheVariants.{Nothing, Move, LegAway, LegToward, Delay, Input, Jog, Try}
-use Rattle.motor.specs.declared.Motor.{Motor}
+use Rattle.motor.specs.declared.Wait.TheVariants.{Nothing, Move, LegAway, LegToward, Delay, Input}
 use Rattle.turns.specs.declared.Core.{Core}
-use Rattle.obeying.specs.Obeying.{body_obeyed, data_of, text_written, image_written, room_for, obeyed_on}
-use Rattle.claims.specs.Encoders.{RightRatio, IsCount}
-use Rattle.claims.specs.Moves.{mode_bit}
+use Rattle.obeying.specs.Obeying.{body_obeyed, data_of, text_written, image_written}
 
 -- what the body b leaves of a core, the current text and the image, and the data of its answer
 abbrev pub core_by : List ℕ → Core → Core
@@ -20,25 +16,17 @@ core_by b c = (body_obeyed b c).core
 abbrev pub text_by : List ℕ → Core → List ℕ → List ℕ
 text_by b c text = text_written (body_obeyed b c).write b text
 
-abbrev pub image_then : List ℕ → Core → List ℕ → List ℕ
-image_then b c image = image_written (body_obeyed b c).write b image
+abbrev pub image_by : List ℕ → Core → List ℕ → List ℕ
+image_by b c image = image_written (body_obeyed b c).write b image
 
 abbrev pub data_by : List ℕ → Core → List ℕ → List ℕ
 data_by b c text = data_of (body_obeyed b c).tell (core_by b c).flow.length (text_by b c text)
-
--- 02, E7: whether there is room in the image for what it stores
-abbrev pub room_in : List ℕ → List ℕ → Core → Bool
-room_in b image c = room_for (body_obeyed b c).write b image
-
--- the code of its answer on an image: 02, E7: of a store that there is no room for, 15
-abbrev pub code_on : List ℕ → List ℕ → Core → ℕ
-code_on b image c = (obeyed_on b image c).code
 
 -- the body makes d of the core c, and changes nothing else; "all others carry the held code"
 pub record Makes (b : List ℕ) (c d : Core) (text image told : List ℕ) : Type 0 where
   pub core : core_by b c ≡ d
   pub text_same : text_by b c text ≡ text
-  pub image-same : image_then b c image ≡ image
+  pub image-same : image_by b c image ≡ image
   pub held-code : (body_obeyed b c).code ≡ d.code
   pub tells : data_by b c text ≡ told
 
@@ -54,8 +42,6 @@ homing (LegAway left n) = true
 homing (LegToward left) = true
 homing (Delay left) = false
 homing (Input digits) = false
-homing (Jog up left) = false
-homing (Try up left made) = false
 
 -- a run stopped by `T`: "The report belongs to the last action answered, even when `T` came between"; "`T` during [a homing] makes the position unknown"
 pub record Stopped (c d : Core) : Type 0 where
@@ -69,19 +55,6 @@ pub record Stopped (c d : Core) : Type 0 where
   pub sample-same : d.motor.sample ≡ c.motor.sample
   pub last-same : d.motor.last ≡ c.motor.last
   pub known : d.motor.known ≡ cond (homing c.motor.wait) false c.motor.known
-  pub encoder-same : d.motor.encoder ≡ c.motor.encoder
-  -- 02, E11: a run holds no code (`code-0`), and `T` makes no overload
-  pub overload_same : c.code ≡ 0 → d.motor.overload ≡ c.motor.overload
-
--- a motor that waits for nothing, and is otherwise as it was: 02, E5: a jog has ended
-pub record Freed (m n : Motor) : Type 0 where
-  pub free : n.wait ≡ Nothing
-  pub position-same : n.position ≡ m.position
-  pub known_same : n.known ≡ m.known
-  pub sample-same : n.sample ≡ m.sample
-  pub last-same : n.last ≡ m.last
-  pub encoder-same : n.encoder ≡ m.encoder
-  pub overload_same : n.overload ≡ m.overload
 
 -- a run of the current text started by `R` or `X`: "set to 0 when a run starts"
 pub record Started (c d : Core) : Type 0 where
@@ -91,18 +64,21 @@ pub record Started (c d : Core) : Type 0 where
   pub none_open : d.flow.depth ≡ 0
   pub not-loaded : d.loaded ≡ false
   pub code_0 : d.code ≡ 0
-  pub motor_freed : Freed c.motor d.motor
+  pub motor-same : d.motor ≡ c.motor
   pub settings-same : d.settings ≡ c.settings
 
--- a wait ended, and nothing else: "`R` alone ends a wait at `H`"; 02, E5: "any accepted line but a query ends" a jog
-pub record WaitEnded (c d : Core) : Type 0 where
+-- "`R` alone ends a wait at `H`", and nothing else
+pub record Resumed (c d : Core) : Type 0 where
   pub flow-same : d.flow ≡ c.flow
   pub settings-same : d.settings ≡ c.settings
   pub running-same : d.running ≡ c.running
   pub loaded-same : d.loaded ≡ c.loaded
   pub code_same : d.code ≡ c.code
-  pub endless-same : d.endless ≡ c.endless
-  pub motor_freed : Freed c.motor d.motor
+  pub free : d.motor.wait ≡ Nothing
+  pub position-same : d.motor.position ≡ c.motor.position
+  pub known_same : d.motor.known ≡ c.motor.known
+  pub sample-same : d.motor.sample ≡ c.motor.sample
+  pub last-same : d.motor.last ≡ c.motor.last
 
 -- the body changes the core in this way, and nothing else
 pub record Turns-to (How : Core → Core → Type 0) (b : List ℕ) (c : Core) (text image : List ℕ) : Type 0 where
@@ -114,10 +90,7 @@ pub record EachBody (c : Core) (text image : List ℕ) : Type 0 where
   pub empty : Asks [] c text image []
   pub status : Asks (bytes "Q") c text image []
   -- "`?0 ?2 ?4 ?6 ?7` give position, `V`, last sample, `j`, `o`"; "`$` gives the current text"
-  pub position : mode_bit 3 c ≡ false → Asks (bytes "?0") c text image (decimal c.motor.position)
-  -- 02, E11: "In correction mode .. `?0` [is] in encoder counts"
-  pub position-counts : (k : ℕ) → mode_bit 3 c ≡ true → RightRatio c.settings.ratio → IsCount c.settings.ratio c.motor.position k
-      → Asks (bytes "?0") c text image (decimal k)
+  pub position : Asks (bytes "?0") c text image (decimal c.motor.position)
   pub speed : Asks (bytes "?2") c text image (decimal c.settings.speed)
   pub sample : Asks (bytes "?4") c text image (decimal c.motor.sample)
   -- 02, E3: "the new immediate `?5` returns" the endless speed
@@ -126,19 +99,15 @@ pub record EachBody (c : Core) (text image : List ℕ) : Type 0 where
   pub correction : Asks (bytes "?7") c text image (decimal c.settings.correction)
   pub current : Asks (bytes "$") c text image (take c.flow.length text)
   -- "`?9` writes the good image with all slots empty"
-  pub clears : length image ≡ 4160 → image_then (bytes "?9") c image ≡ big_empty
-  -- 02, E7: of the form that the image has
-  pub clears-small : length image ≡ 1024 → image_then (bytes "?9") c image ≡ small_empty
+  pub clears : right_length image ≡ true → image_by (bytes "?9") c image ≡ empty_image
   pub clears-only : (core_by (bytes "?9") c ≡ c) × (text_by (bytes "?9") c text ≡ text) × (data_by (bytes "?9") c text ≡ [])
-  -- "`T` when idle does nothing", 02, E5: but ends a jog; a run is stopped
-  pub idle_t : c.running ≡ false → c.motor.wait ≡ Nothing → Asks (bytes "T") c text image []
-  pub t_ends-jog : c.running ≡ false → Turns-to WaitEnded (bytes "T") c text image
+  -- "`T` when idle does nothing"; a run is stopped
+  pub idle_t : c.running ≡ false → Asks (bytes "T") c text image []
   pub stops : c.running ≡ true → Turns-to Stopped (bytes "T") c text image
   pub tr_is_t : body_obeyed (bytes "TR") c ≡ body_obeyed (bytes "T") c
   -- "`R` alone ends a wait at `H`; when idle it runs a loaded line not yet run, else does nothing"
-  pub resumes : (digits : ℕ) → c.running ≡ true → c.motor.wait ≡ Input digits → Turns-to WaitEnded (bytes "R") c text image
+  pub resumes : (digits : ℕ) → c.running ≡ true → c.motor.wait ≡ Input digits → Turns-to Resumed (bytes "R") c text image
   pub runs : c.running ≡ false → c.loaded ≡ true → Turns-to Started (bytes "R") c text image
-  pub nothing-loaded : c.running ≡ false → c.loaded ≡ false → c.motor.wait ≡ Nothing → Asks (bytes "R") c text image []
-  pub r_ends-jog : c.running ≡ false → c.loaded ≡ false → Turns-to WaitEnded (bytes "R") c text image
+  pub nothing-loaded : c.running ≡ false → c.loaded ≡ false → Asks (bytes "R") c text image []
   -- "`X` alone, when idle, runs the current text again"
   pub again : c.running ≡ false → Turns-to Started (bytes "X") c text image

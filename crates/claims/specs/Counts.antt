@@ -3,7 +3,7 @@
 use Rattle.std.specs.Prelude.{ℕ, ◌≤◌, ◌<◌, ◌≡◌, List, ◌∷◌, length}
 use Rattle.parts.specs.Letters.{byte}
 use Rattle.commands.specs.declared.Command.{Command}
-use Rattle.commands.specs.Table.{one, command_of}
+use Rattle.commands.specs.Table.{command_of}
 use Rattle.lines.specs.Texts.{these, bare_from}
 use Rattle.lines.specs.Bodies.{line_fault, line_code_lem}
 use Rattle.courses.specs.Meaning.{unrolled, course_in}
@@ -12,12 +12,12 @@ use Rattle.forecast.specs.Count.{body_text, count_of, counted_name}
 
 -- "`e`, `S`, `H`, bare `G` or a `G`, `P` or `D` of 0", by their letters
 pub data Uncounted : Command → Type 0 where
-  jump : (n : ℕ) → Uncounted (command_of (one (byte "e")) n)
-  skip : (n : ℕ) → Uncounted (command_of (one (byte "S")) n)
-  wait : (n : ℕ) → Uncounted (command_of (one (byte "H")) n)
-  loop-0 : Uncounted (command_of (one (byte "G")) 0)
-  up_0 : Uncounted (command_of (one (byte "P")) 0)
-  down_0 : Uncounted (command_of (one (byte "D")) 0)
+  jump : (n : ℕ) → Uncounted (command_of (byte "e") n)
+  skip : (n : ℕ) → Uncounted (command_of (byte "S") n)
+  wait : (n : ℕ) → Uncounted (command_of (byte "H") n)
+  loop-0 : Uncounted (command_of (byte "G") 0)
+  up_0 : Uncounted (command_of (byte "P") 0)
+  down_0 : Uncounted (command_of (byte "D") 0)
 
 -- one of a list
 pub data Some : List Command → Type 0 where

@@ -1,16 +1,13 @@
 -- Demand 1: "Every call answers on every input and every lent length. Bad input gets the code or refusal that document 01 names, at the place in
 -- the order that it names, and that refusal changes nothing .. beyond what 01 says." A field for each row of 01's table of outcomes.
 -- Assumes nothing.
-use Rattle.std.specs.Prelude.{ℕ, ◌≤◌, ◌<◌, ◌≡◌, List, [], ◌∷◌, ◌++◌, Bool, true, false, not, cond, ℤ, length, drop, eqb}
+use Rattle.std.specs.Prelude.{ℕ, ◌≤◌, ◌<◌, ◌≡◌, List, [], ◌∷◌, ◌++◌, Bool, true, false, not, cond, length, drop, eqb}
 use Prim.Native.String.{String}
 use Rattle.digits.specs.Decimal.{decimal}
 use Rattle.commands.specs.declared.Fault.{Fault}
-use Rattle.commands.specs.Reading.{fault}
 use Rattle.commands.specs.Table as table
 use Rattle.lines.specs.Texts.{text_good, older_good}
-use Rattle.lines.specs.declared.Body.{Body}
-use Rattle.lines.specs.declared.Taken.{Taken}
-use Rattle.lines.specs.Bodies.{body_of, line_of, line_fault, line_code_lem}
+use Rattle.lines.specs.Bodies.{line_fault, line_code_lem}
 use Rattle.lines.specs.Claims.{PlacedIn}
 use Rattle.frames.specs.declared.Frame.{Frame}
 use Rattle.frames.specs.declared.Framing.{Framing}
@@ -28,7 +25,7 @@ use Rattle.drive.specs.declared.FeedAnswer.{FeedAnswer}
 use Rattle.drive.specs.Names.{start_name, feed_name, turn_name}
 use Rattle.drive.specs.Calls.{Starting, start_of, received_by, body_by, packet_as, Feeding, feed_of, Turning, turn_of}
 use Rattle.claims.specs.Order.{fault_in_order, code_in_order}
-use Rattle.claims.specs.Images.{EitherLength, ImageSo, RoomThere, ImageRow, StoreRow}
+use Rattle.claims.specs.Images.{EverySlot, ImageRow, StoreRow}
 use Rattle.claims.specs.Packets.{PacketRow}
 use Rattle.claims.specs.Counts.{CountRow}
 
@@ -44,16 +41,15 @@ pub record StartRefused (name : String) (body text : List ℕ) (s : Starting) : 
   pub body_same : s.unit.receiver.body ≡ body
   pub text_same : s.unit.text ≡ text
 
--- "at start: unit number not 1 to 16, then image not 4,160 bytes, then bad image"; 02, E7: "neither length"; 02, E9: by the check of texts without a
--- limit of digits
+-- "at start: unit number not 1 to 16, then image not 4,160 bytes, then bad image"; 02, E9: by the check of texts without a limit of digits
 pub record StartRow (number : ℕ) (image body text : List ℕ) : Type 0 where
   pub unit-number : (From 1 16 number → ⊥) → StartRefused "unit number not 1 to 16" body text (start_of number image body text)
-  pub image-length : From 1 16 number → (EitherLength image → ⊥) → StartRefused "image neither 4,160 nor 1,024 bytes" body text (start_of number image body text)
-  pub image-bad : From 1 16 number → EitherLength image → (ImageSo older_good image → ⊥) → StartRefused "bad image" body text (start_of number image body text)
-  pub started : From 1 16 number → ImageSo older_good image
+  pub image-length : From 1 16 number → (length image ≡ 4160 → ⊥) → StartRefused "image not 4,160 bytes" body text (start_of number image body text)
+  pub image-bad : From 1 16 number → length image ≡ 4160 → (EverySlot older_good image → ⊥) → StartRefused "bad image" body text (start_of number image body text)
+  pub started : From 1 16 number → length image ≡ 4160 → EverySlot older_good image
       → (start_name (start_of number image body text).answer ≡ "started") × ((start_of number image body text).unit.number ≡ number)
   -- an image that the image check calls good is never refused
-  pub good-starts : From 1 16 number → ImageSo text_good image → start_name (start_of number image body text).answer ≡ "started"
+  pub good-starts : From 1 16 number → length image ≡ 4160 → EverySlot text_good image → start_name (start_of number image body text).answer ≡ "started"
 
 -- a feed call whose frame is refused with a code: "packet with the code (none to a group); record beyond the receiver, and image, unchanged";
 -- "Answer bytes past the packet are unchanged; without an answer all are."
@@ -80,12 +76,6 @@ frame_code u bytes = (frame_fault u bytes).code
 abbrev pub place_data : ℕ → List ℕ
 place_data p = cond (eqb p 0) [] (decimal p)
 
--- a store that passes 01's checks: of n bytes of the body from a place on, to a slot
-pub record StorePasses (b : List ℕ) (c : Core) (slot at n : ℕ) : Type 0 where
-  pub is_line : body_of b ≡ Body.Line
-  pub idle : c.running ≡ false
-  pub is_store : line_of b ≡ Taken.Store slot at n
-
 -- a refusal's packet: its code and its place, idle or running as before, in the frame's framing
 abbrev pub refusal_packet : Drive → Framing → Fault → List ℕ
 refusal_packet u g f = packet_as g (status_of (not u.core.running) f.code) (place_data f.place)
@@ -102,23 +92,17 @@ pub record FeedRefused (name : String) (u : Drive) (image buffer : List ℕ) (r 
 pub record FeedRow (u : Drive) (bytes image buffer : List ℕ) : Type 0 where
   -- "answer buffer under 262 bytes"
   pub buffer-short : length buffer < 262 → FeedRefused "answer buffer under 262 bytes" u image buffer (feed_of u bytes image buffer)
-  -- "image not 4,160 bytes | the same; tested after the buffer", and by 02, E7, "neither length"
-  pub image-length : 262 ≤ length buffer → (EitherLength image → ⊥) → FeedRefused "image neither 4,160 nor 1,024 bytes" u image buffer (feed_of u bytes image buffer)
-  pub taken : 262 ≤ length buffer → EitherLength image → feed_name (feed_of u bytes image buffer).answer ≡ "taken"
+  -- "image not 4,160 bytes | the same; tested after the buffer"
+  pub image-length : 262 ≤ length buffer → (length image ≡ 4160 → ⊥) → FeedRefused "image not 4,160 bytes" u image buffer (feed_of u bytes image buffer)
+  pub taken : 262 ≤ length buffer → length image ≡ 4160 → feed_name (feed_of u bytes image buffer).answer ≡ "taken"
   -- "A group frame is obeyed and never answered"; "without an answer all are [unchanged]"
-  pub group-silent : 262 ≤ length buffer → EitherLength image → (received_by u bytes).frame ≡ Frame.Group
+  pub group-silent : 262 ≤ length buffer → length image ≡ 4160 → (received_by u bytes).frame ≡ Frame.Group
       → ((feed_of u bytes image buffer).answered ≡ 0) × ((feed_of u bytes image buffer).buffer ≡ buffer)
   -- "code 2, 3 or 15", to this unit alone and to a group
-  pub frame_refused : 262 ≤ length buffer → EitherLength image → (received_by u bytes).frame ≡ Frame.Alone
+  pub frame_refused : 262 ≤ length buffer → length image ≡ 4160 → (received_by u bytes).frame ≡ Frame.Alone
       → (frame_code u bytes ≡ 0 → ⊥) → FrameRefused u bytes image buffer (refusal_packet u (received_by u bytes).framing (frame_fault u bytes))
-  pub group-refused : 262 ≤ length buffer → EitherLength image → (received_by u bytes).frame ≡ Frame.Group
+  pub group-refused : 262 ≤ length buffer → length image ≡ 4160 → (received_by u bytes).frame ≡ Frame.Group
       → (frame_code u bytes ≡ 0 → ⊥) → FrameRefused u bytes image buffer []
-  -- 02, E7: "a store that passes 01's checks is refused with 15 exactly when ..", "tested last": no place, and nothing changed; else it is not refused
-  pub store-refused : 262 ≤ length buffer → EitherLength image → (received_by u bytes).frame ≡ Frame.Alone → (slot at n : ℕ)
-      → StorePasses (body_by u bytes) u.core slot at n → (RoomThere image slot n → ⊥)
-      → FrameRefused u bytes image buffer (refusal_packet u (received_by u bytes).framing (fault 15 0))
-  pub group-store-refused : 262 ≤ length buffer → EitherLength image → (received_by u bytes).frame ≡ Frame.Group → (slot at n : ℕ)
-      → StorePasses (body_by u bytes) u.core slot at n → (RoomThere image slot n → ⊥) → FrameRefused u bytes image buffer []
 
 -- "Order of checks for a frame", for every body and core
 pub record OrderRow (b : List ℕ) (c : Core) : Type 0 where
@@ -129,8 +113,6 @@ pub record OrderRow (b : List ℕ) (c : Core) : Type 0 where
   pub placed : length b ≤ 256 → table.one_of (2 ∷ 3 ∷ []) (code_in_order b c) ≡ true → PlacedIn (length b) (fault_in_order b c)
   pub no_place : table.one_of (2 ∷ 3 ∷ []) (code_in_order b c) ≡ false → (fault_in_order b c).place ≡ 0
   pub three_digits : length (place_data (fault_in_order b c).place) ≤ 3
-  -- 02, E7: "a store that passes 01's checks" is one that none of them refuses
-  pub store-passes : (slot at n : ℕ) → StorePasses b c slot at n → code_in_order b c ≡ 0
   -- "all others carry the held code"
   pub held : code_in_order b c ≡ 0 → (body_obeyed b c).code ≡ (body_obeyed b c).core.code
 
@@ -142,11 +124,11 @@ pub record TurnRefused (name : String) (u : Drive) (r : Turning) : Type 0 where
   pub number_0 : r.action.number ≡ 0
 
 -- "sample over 15, then too many microsteps, in a turn | named refusal, nothing changed; tested after the image length"
-pub record TurnRow (u : Drive) (sample ms steps : ℕ) (count : ℤ) (image : List ℕ) : Type 0 where
-  pub image-length : (EitherLength image → ⊥) → TurnRefused "image neither 4,160 nor 1,024 bytes" u (turn_of u sample ms steps count image)
-  pub sample-high : EitherLength image → 15 < sample → TurnRefused "sample over 15" u (turn_of u sample ms steps count image)
-  pub steps-many : EitherLength image → sample ≤ 15 → u.core.motor.last.number < steps → TurnRefused "too many microsteps" u (turn_of u sample ms steps count image)
-  pub taken : EitherLength image → sample ≤ 15 → steps ≤ u.core.motor.last.number → turn_name (turn_of u sample ms steps count image).answer ≡ "taken"
+pub record TurnRow (u : Drive) (sample ms steps : ℕ) (image : List ℕ) : Type 0 where
+  pub image-length : (length image ≡ 4160 → ⊥) → TurnRefused "image not 4,160 bytes" u (turn_of u sample ms steps image)
+  pub sample-high : length image ≡ 4160 → 15 < sample → TurnRefused "sample over 15" u (turn_of u sample ms steps image)
+  pub steps-many : length image ≡ 4160 → sample ≤ 15 → u.core.motor.last.number < steps → TurnRefused "too many microsteps" u (turn_of u sample ms steps image)
+  pub taken : length image ≡ 4160 → sample ≤ 15 → steps ≤ u.core.motor.last.number → turn_name (turn_of u sample ms steps image).answer ≡ "taken"
 
 -- "named refusal, all figures 0"
 pub record RampRefused (name : String) (f : Figures) : Type 0 where
@@ -164,7 +146,7 @@ pub record Demand1 : Type 0 where
   pub start : (number : ℕ) (image body text : List ℕ) → StartRow number image body text
   pub feed : (u : Drive) (bytes image buffer : List ℕ) → FeedRow u bytes image buffer
   pub order : (b : List ℕ) (c : Core) → OrderRow b c
-  pub turn : (u : Drive) (sample ms steps : ℕ) (count : ℤ) (image : List ℕ) → TurnRow u sample ms steps count image
+  pub turn : (u : Drive) (sample ms steps : ℕ) (image : List ℕ) → TurnRow u sample ms steps image
   -- "host: list that the line check refuses .., then buffer too short | that code, or named refusal; buffer unchanged"
   pub line : HostClaims
   pub packet : PacketRow

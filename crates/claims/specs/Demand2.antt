@@ -1,7 +1,7 @@
 -- Demand 2: "Which lines are taken, what each does, every answer byte and every ramp figure are those of the manuals as 01 condenses them. A line
 -- written from a list of commands reads back as that list. Cutting the serial stream differently .. changes nothing. A whole frame for another
 -- unit, put in between two frames, changes none of this unit's answers." Assumes nothing.
-use Rattle.std.specs.Prelude.{ℕ, ◌<◌, ◌≡◌, List, Bool, true, false, not, cond, ℤ, take}
+use Rattle.std.specs.Prelude.{ℕ, ◌<◌, ◌≡◌, List, Bool, true, false, not, cond, take}
 use Rattle.parts.specs.Parts.{part}
 use Rattle.digits.specs.ReadBack.{DigitClaims}
 use Rattle.commands.specs.Claims.{CommandClaims}
@@ -10,8 +10,7 @@ use Rattle.lines.specs.declared.Taken.{Taken}
 use Rattle.lines.specs.Bodies.{body_of, line_of}
 use Rattle.lines.specs.Claims.{LineClaims}
 use Rattle.image.specs.declared.Checked.{Checked}
-use Rattle.contents.specs.Contents.{slots}
-use Rattle.image.specs.Image.{right_length, may_store, slot_text}
+use Rattle.image.specs.Image.{right_length, slots, slot_text}
 use Rattle.image.specs.Calls.{checked_of}
 use Rattle.image.specs.Claims.{SlotKept, ImageClaims}
 use Rattle.frames.specs.Claims.{FrameClaims}
@@ -20,15 +19,13 @@ use Rattle.ramp.specs.Claims.{RampClaims}
 use Rattle.host.specs.Claims.{HostClaims}
 use Rattle.turns.specs.declared.Core.{Core}
 use Rattle.obeying.specs.declared.Obeyed.{Obeyed}
-use Rattle.obeying.specs.Obeying.{refused, text_written, image_written, obeyed_on}
+use Rattle.obeying.specs.Obeying.{body_obeyed, text_written, image_written}
 use Rattle.drive.specs.Unit.{Drive}
 use Rattle.stream.specs.Claims.{StreamClaims}
 use Rattle.stream.specs.Oem.{OemClaims}
 use Rattle.runs.specs.Reach.{Reached}
 use Rattle.runs.specs.Packets.{PacketClaims}
-use Rattle.claims.specs.Bodies.{Freed, WaitEnded}
 use Rattle.claims.specs.Effects.{EffectClaims}
-use Rattle.claims.specs.Alike.{AlikeClaims}
 use Rattle.claims.specs.Demand1.{From}
 use Rattle.claims.specs.Addressed.{Addressed}
 use Rattle.claims.specs.Moves.{MoveTurns}
@@ -44,32 +41,25 @@ pub record Loads (b : List ℕ) (n : ℕ) (run : Bool) (c : Core) (text image : 
   pub loaded : o.core.loaded ≡ not run
   -- the held code is "set to 0 when a run starts"; nothing else of the record changes
   pub code : o.core.code ≡ cond run 0 c.code
-  -- 02, E5: "any accepted line but a query ends" a jog
-  pub motor_freed : Freed c.motor o.core.motor
+  pub motor-same : o.core.motor ≡ c.motor
   pub settings-same : o.core.settings ≡ c.settings
   pub endless-same : o.core.endless ≡ c.endless
   pub image-same : image_written o.write b image ≡ image
 
--- "the text between slot and `R` is stored .. such a line starts no run and leaves the current text", on the image lent with the frame
-pub record Stores (b : List ℕ) (slot at n : ℕ) (c : Core) (text image : List ℕ) (o : Obeyed) : Type 0 where
-  -- 02, E5: a store that is done ends a jog, and changes nothing else of the unit
-  pub jog-ended : right_length image ≡ true → may_store image slot n ≡ true → WaitEnded c o.core
-  pub text_same : text_written o.write b text ≡ text
-  -- where there is room; "all others carry the held code"
-  pub stored : right_length image ≡ true → may_store image slot n ≡ true → slot_text (image_written o.write b image) slot ≡ part b at n
-  pub held-code : right_length image ≡ true → may_store image slot n ≡ true → o.code ≡ c.code
-  -- 02, E7: where there is none: refused with 15, and unit and image unchanged
-  pub no_room : right_length image ≡ true → may_store image slot n ≡ false → o ≡ refused 15 c
-  pub image-same : right_length image ≡ true → may_store image slot n ≡ false → image_written o.write b image ≡ image
-  -- "`s` rewrites one entry and one body": every other slot is as it was
-  pub elsewhere : (j : ℕ) → j < slots → (j ≡ slot → ⊥) → SlotKept j image (image_written o.write b image)
-  pub stays-good : checked_of image ≡ Checked.Good → checked_of (image_written o.write b image) ≡ Checked.Good
+-- "the text between slot and `R` is stored .. such a line starts no run and leaves the current text"
+pub record Stores (b : List ℕ) (slot at n : ℕ) (c : Core) (text image : List ℕ) : Type 0 where
+  pub unit-same : (body_obeyed b c).core ≡ c
+  pub text_same : text_written (body_obeyed b c).write b text ≡ text
+  pub stored : right_length image ≡ true → slot_text (image_written (body_obeyed b c).write b image) slot ≡ part b at n
+  -- "`s` rewrites one entry and one body" of the image lent with the frame
+  pub elsewhere : (j : ℕ) → j < slots → (j ≡ slot → ⊥) → SlotKept j image (image_written (body_obeyed b c).write b image)
+  pub stays-good : checked_of image ≡ Checked.Good → checked_of (image_written (body_obeyed b c).write b image) ≡ Checked.Good
 
 pub record LineDoes (b : List ℕ) (c : Core) (text image : List ℕ) : Type 0 where
   pub loads : (n : ℕ) (run : Bool) → body_of b ≡ Body.Line → c.running ≡ false → line_of b ≡ Taken.Line n run
-      → Loads b n run c text image (obeyed_on b image c)
+      → Loads b n run c text image (body_obeyed b c)
   pub stores : (slot at n : ℕ) → body_of b ≡ Body.Line → c.running ≡ false → line_of b ≡ Taken.Store slot at n
-      → Stores b slot at n c text image (obeyed_on b image c)
+      → Stores b slot at n c text image
 
 pub record Demand2 : Type 0 where
   -- "Which lines are taken": operands, commands, whole lines, said without the check (`spelled-taken`, `taken-spelled`)
@@ -80,9 +70,7 @@ pub record Demand2 : Type 0 where
   pub does : (b : List ℕ) (c : Core) (text image : List ℕ) → LineDoes b c text image
   pub effects : EffectClaims
   pub images : ImageClaims
-  -- 02, E7: "Good images with equal texts answer every frame alike while the texts fit"
-  pub alike : AlikeClaims
-  pub moves : (sample ms steps : ℕ) (count : ℤ) (text image : List ℕ) (c : Core) → MoveTurns sample ms steps count text image c
+  pub moves : (sample ms steps : ℕ) (text image : List ℕ) (c : Core) → MoveTurns sample ms steps text image c
   -- "every answer byte"
   pub answers : AnswerClaims
   pub packets : PacketClaims

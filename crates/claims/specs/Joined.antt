@@ -1,5 +1,5 @@
 -- From bytes to answer: what holds of every reached unit before a call, and a frame of either framing typed to it. 01, "Frames" and "What
--- comes back"; 02, E1 and E7. Assumes nothing.
+-- comes back"; 02, E1. Assumes nothing.
 use Rattle.std.specs.Prelude.{ℕ, ◌≤◌, ◌≡◌, List, [], true, false, not, cond, length}
 use Rattle.commands.specs.Table.{one_of}
 use Rattle.parts.specs.Parts.{most_bytes}
@@ -10,27 +10,26 @@ use Rattle.frames.specs.Addresses.{is_unit, unit_byte}
 use Rattle.frames.specs.Receive.{ours, good, elsewhere}
 use Rattle.frames.specs.Claims.{Sound, free, frame_of, oem_of, sum_of}
 use Rattle.answers.specs.Packet.{packet_bytes, status_of}
+use Rattle.obeying.specs.Obeying.{body_obeyed}
 use Rattle.drive.specs.Unit.{Drive}
 use Rattle.drive.specs.declared.Last.{Last}
 use Rattle.drive.specs.Repeats.{sequence_number, is_repeat, is_query}
-use Rattle.drive.specs.Calls.{received_by, body_by, packet_as, Feeding, feed_of}
+use Rattle.drive.specs.Calls.{received_by, packet_as, Feeding, feed_of}
 use Rattle.stream.specs.Fits.{Fits}
 use Rattle.stream.specs.Oem.{Heeded}
 use Rattle.runs.specs.Causes.{cause_codes}
 use Rattle.runs.specs.Packets.{answered_by}
-use Rattle.claims.specs.Bodies.{core_by, text_by, image_then, data_by, room_in, code_on}
+use Rattle.claims.specs.Bodies.{core_by, text_by, image_by, data_by}
 use Rattle.claims.specs.Demand1.{frame_code}
 
 -- a frame for this unit alone, the body of it that is obeyed, and the packet that answers it in the frame's framing
 pub record Typed (u : Drive) (framing : Framing) (body bytes image buffer : List ℕ) (r : Feeding) : Type 0 where
   pub consumed : r.consumed ≡ length bytes
-  pub core-left : room_in body image u.core ≡ true → r.unit.core ≡ core_by body u.core
-  -- 02, E7: a store that there is no room for leaves the unit as it was; 02, E5: a jog too
-  pub core-kept : room_in body image u.core ≡ false → r.unit.core ≡ u.core
+  pub core-left : r.unit.core ≡ core_by body u.core
   pub text-left : r.unit.text ≡ text_by body u.core u.text
-  pub image-left : r.image ≡ image_then body u.core image
+  pub image-left : r.image ≡ image_by body u.core image
   pub answer : answered_by u bytes image buffer
-      ≡ packet_as framing (status_of (not (core_by body u.core).running) (code_on body image u.core)) (data_by body u.core u.text)
+      ≡ packet_as framing (status_of (not (core_by body u.core).running) (body_obeyed body u.core).code) (data_by body u.core u.text)
 
 -- a body of at most 256 bytes, and a call that is not refused, wherever the receiver stands but in the checksum place
 pub record Typing (u : Drive) (body image buffer : List ℕ) : Type 0 where
@@ -59,8 +58,7 @@ pub record Joined (u : Drive) : Type 0 where
       → is_repeat u.last (Framing.Oem q) ≡ true
       → let bytes = oem_of (unit_byte u.number) q body (sum_of (unit_byte u.number) q body) in
       Typed u (Framing.Oem q) (cond (is_query body) body []) bytes image buffer (feed_of u bytes image buffer)
-  -- "the number of the last OEM frame for this unit or its groups not refused": one that the order of checks takes, and that there is
-  -- room for, sets it; a refused one leaves it (`FeedRow`), as do plain and skipped frames
+  -- "the number of the last OEM frame for this unit or its groups not refused": one that the order of checks takes sets it; a refused one
+  -- leaves it (`FeedRow`), as do plain and skipped frames
   pub sets-number : (bytes image buffer : List ℕ) (q : ℕ) → Heeded image buffer → ours (received_by u bytes).frame ≡ true
-      → (received_by u bytes).framing ≡ Framing.Oem q → frame_code u bytes ≡ 0
-      → room_in (body_by u bytes) image u.core ≡ true → (feed_of u bytes image buffer).unit.last ≡ Last.Number (sequence_number q)
+      → (received_by u bytes).framing ≡ Framing.Oem q → frame_code u bytes ≡ 0 → (feed_of u bytes image buffer).unit.last ≡ Last.Number (sequence_number q)

@@ -1,13 +1,9 @@
 -- "For every input, refused or not, the promise names one result and one content of all lent bytes; that no second answer meets it is proved".
 -- A field for each promise that is a record; every other call's promise is one equation of its result. Assumes nothing.
-use Rattle.std.specs.Prelude.{ℕ, ◌≡◌, List, Bool, ℤ}
+use Rattle.std.specs.Prelude.{ℕ, ◌≡◌, List, Bool}
 use Rattle.parts.specs.Parts.{PutIs}
 use Rattle.digits.specs.declared.Written.{Written}
 use Rattle.digits.specs.Decimal.{WrittenIs}
-use Rattle.big.specs.Calls.{BigStored, BigCleared}
-use Rattle.small.specs.Calls.{SmallStoredIs, SmallClearedIs}
-use Rattle.transfer.specs.declared.Transferred.{Transferred}
-use Rattle.transfer.specs.Transfer.{ToSmallIs, ToBigIs}
 use Rattle.image.specs.declared.Stored.{Stored}
 use Rattle.image.specs.Calls.{StoredIs, ClearedIs}
 use Rattle.answers.specs.Packet.{PacketIs}
@@ -38,15 +34,6 @@ pub record OneAnswer : Type 0 where
   pub put : (buffer : List ℕ) (at : ℕ) (bytes : List ℕ) → Once {A = Bool} (PutIs buffer at bytes)
   -- `digits::write_number`, `digits::write_byte`, `commands::write_command`
   pub written : (buffer : List ℕ) (at : ℕ) (text : List ℕ) → Once {A = Written} (WrittenIs buffer at text)
-  -- `big::store`, `big::clear`
-  pub big_stored : (image : List ℕ) (slot : ℕ) (text : List ℕ) → Once {A = Bool} (BigStored image slot text)
-  pub big_cleared_lem : (image : List ℕ) → Once {A = Bool} (BigCleared image)
-  -- `small::store`, `small::clear`
-  pub small-stored : (image : List ℕ) (slot : ℕ) (text : List ℕ) → Once {A = Bool} (SmallStoredIs image slot text)
-  pub small-cleared : (image : List ℕ) → Once {A = Bool} (SmallClearedIs image)
-  -- `transfer::to_small`, `transfer::to_big`
-  pub moved-small : (source target : List ℕ) → Once {A = Transferred} (ToSmallIs source target)
-  pub moved_big : (source target : List ℕ) → Once {A = Transferred} (ToBigIs source target)
   -- `image::store`, `image::clear`
   pub stored : (image : List ℕ) (slot : ℕ) (text : List ℕ) → Once {A = Stored} (StoredIs image slot text)
   pub cleared : (image : List ℕ) → Once {A = Bool} (ClearedIs image)
@@ -69,4 +56,4 @@ pub record OneAnswer : Type 0 where
       → fed_with r b t x k ≡ feed_of (unit_of u body text) bytes image buffer → fed_with s c v y l ≡ feed_of (unit_of u body text) bytes image buffer
       → (r ≡ s) × (b ≡ c) × (t ≡ v) × (x ≡ y) × (k ≡ l)
   -- `drive::turn`: the current text
-  pub turned : (u : Record) (text : List ℕ) (sample ms steps : ℕ) (count : ℤ) (image : List ℕ) → Once {A = Turned} (TurnedIs u text sample ms steps count image)
+  pub turned : (u : Record) (text : List ℕ) (sample ms steps : ℕ) (image : List ℕ) → Once {A = Turned} (TurnedIs u text sample ms steps image)

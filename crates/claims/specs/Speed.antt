@@ -1,6 +1,6 @@
 -- The endless speed: what sets it, that nothing else does, what a line that sets it leaves, and that `?5` tells it. 02, E3.
 -- Assumes nothing.
-use Rattle.std.specs.Prelude.{ℕ, ◌+◌, ◌≤◌, ◌≡◌, List, ◌∷◌, ◌++◌, Bool, true, false, ℤ, length}
+use Rattle.std.specs.Prelude.{ℕ, ◌+◌, ◌≤◌, ◌≡◌, List, ◌∷◌, ◌++◌, Bool, true, length}
 use Rattle.digits.specs.Decimal.{decimal}
 use Rattle.digits.specs.ReadBack.{spelling}
 use Rattle.parts.specs.Letters.{byte, bytes}
@@ -60,9 +60,9 @@ pub data SetBy (u : Drive) : Call → ℕ → Type 0 where
   -- "is obeyed while an endless move is on"
   on_the_way_lem : {bytes image buffer : List ℕ} (zeros n : ℕ) → Hears u bytes image buffer (speed_body zeros n) → OnTheWay u.core zeros n
       → SetBy u (feed bytes image buffer) n
-  -- "a new `P0` or `D0` starts it from `V`": one that is taken, with no overload and the position known
-  from_v : {sample ms steps l : ℕ} {count : ℤ} {image : List ℕ} → Made u sample steps image → u.core.running ≡ true → Relative l
-      → Takes (a_turn u sample ms steps count image) l 0 → u.core.motor.overload ≡ false → u.core.motor.known ≡ true → SetBy u (turn sample ms steps count image) u.core.settings.speed
+  -- "a new `P0` or `D0` starts it from `V`": one that is taken, with the position known
+  from_v : {sample ms steps l : ℕ} {image : List ℕ} → Made u sample steps image → u.core.running ≡ true → Relative l
+      → Takes (a_turn u sample ms steps image) l 0 → u.core.motor.known ≡ true → SetBy u (turn sample ms steps image) u.core.settings.speed
 
 -- any calls in any order lead from u to v, and none of them sets it
 pub data Unset (u : Drive) : Drive → Type 0 where

@@ -1,20 +1,18 @@
--- For the code: a name's row with the number still to come, and what its operand gives.
+-- For the code: a letter's row with the number still to come, and what its operand gives.
 -- Assumes nothing.
-use Rattle.std.specs.Prelude.{ℕ, ◌≡◌, List, Bool, ◌||◌, eqb}
+use Rattle.std.specs.Prelude.{ℕ, ◌≡◌}
 use Rattle.commands.specs.declared.Command.{Command}
 use Rattle.commands.specs.declared.Command.TheVariants.{LoopBegin, LoopEnd, Skip, Jump, Plain}
 use Rattle.commands.specs.declared.Act.{Act}
-use Rattle.commands.specs.declared.Act.TheVariants.{MoveTo, MoveUp, MoveDown, SetPosition, Home, Set, Delay, WaitInput, Recover}
-use Rattle.commands.specs.declared.Name.{Name}
+use Rattle.commands.specs.declared.Act.TheVariants.{MoveTo, MoveUp, MoveDown, SetPosition, Home, Set, Delay, WaitInput}
 use Rattle.commands.specs.declared.Asks.{Asks}
 use Rattle.commands.specs.declared.Lettered.{Lettered}
-use Rattle.commands.specs.declared.Standing.{Standing}
 use Rattle.commands.specs.declared.Fitted.{Fitted}
 use Rattle.commands.specs.declared.Fitted.TheVariants.{Fits, Fails}
 use Rattle.commands.specs.declared.Read.{Read}
 use Rattle.commands.specs.declared.Read.TheVariants.{At, Bad}
 use Rattle.commands.specs.Table.{asks_of, command_of}
-use Rattle.commands.specs.Reading.{is_long, name_at, behind_name}
+use Rattle.commands.specs.Reading.{fault}
 
 -- a plain command with another number
 abbrev pub act_numbered : ℕ → Act → Act
@@ -26,7 +24,6 @@ act_numbered n (Home k) = Home n
 act_numbered n (Set which k) = Set which n
 act_numbered n (Delay k) = Delay n
 act_numbered n (WaitInput k) = WaitInput n
-act_numbered n Recover = Recover
 
 -- a command with another number
 abbrev pub numbered_as : ℕ → Command → Command
@@ -39,20 +36,12 @@ numbered_as n (Plain a) = Plain (act_numbered n a)
 abbrev pub lettered : Asks → Command → Lettered
 lettered a c = record { asks = a; command = c }
 
--- a second letter stands behind `a` alone
-abbrev pub is_typed : Name → Bool
-is_typed l = is_long l.letter || eqb l.second 0
-
--- the name at a place of s, and where its operand begins
-abbrev pub standing_at : List ℕ → ℕ → Standing
-standing_at s at = record { name = name_at s at; behind = behind_name s at }
-
--- the row of a name
-pub record RowIs (l : Name) (r : Lettered) : Type 0 where
+-- the row of a letter
+pub record RowIs (l : ℕ) (r : Lettered) : Type 0 where
   pub asks_so : r.asks ≡ asks_of l
   pub commands : (n : ℕ) → numbered_as n r.command ≡ command_of l n
 
--- the name's command with that number, or the fault at the name's place
-abbrev pub fitted_read : Name → ℕ → Fitted → Read
+-- the letter's command with that number, or the fault at the letter's place
+abbrev pub fitted_read : ℕ → ℕ → Fitted → Read
 fitted_read l p (Fits n next) = At (command_of l n) next
 fitted_read l p (Fails code) = Bad code p

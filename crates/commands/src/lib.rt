@@ -5,7 +5,7 @@ mod writing;
 
 ghost use Rattle.std.specs.Prelude.{◌≡◌};
 ghost use Rattle.digits.specs.Decimal.{WrittenIs};
-ghost use Rattle.commands.specs.Table.{setting_name, named_of, exponent_of};
+ghost use Rattle.commands.specs.Table.{named_of, exponent_of};
 ghost use Rattle.commands.specs.Reading.{read_by, read_at};
 ghost use Rattle.commands.specs.Writing.{spelled};
 ghost use Rattle.commands.specs.Claims.{CommandClaims};
@@ -33,11 +33,9 @@ pub enum Act {
     Set(Setting, u32),
     Delay(u32),
     WaitInput(u32),
-    // Of the encoder, after an overload.
-    Recover,
 }
 
-// What a command sets: a variant each, its name and range in `table.rt`.
+// What a command sets: a variant each, its letter and range in `table.rt`.
 #[derive(Drop)]
 pub enum Setting {
     TopSpeed,
@@ -50,23 +48,6 @@ pub enum Setting {
     Correction,
     Outputs,
     Baud,
-    // Jogs and limits.
-    Mode,
-    // Of a jog.
-    Distance,
-    // Encoder counts that a move's end may be off.
-    Allowed,
-    // Microsteps of a thousand encoder counts.
-    Ratio,
-    // How often such a move is tried again.
-    Tries,
-}
-
-// A command's name: a letter, or `a` and another; the second is 0 where there is none.
-#[derive(Drop)]
-pub struct Name {
-    pub letter: u8,
-    pub second: u8,
 }
 
 // Why a line is refused, 2 or 3, and where: counting bytes from 1, 0 for no place.
@@ -85,7 +66,7 @@ pub enum Read {
     End,
 }
 
-// The command of a name, where it has one.
+// The command of a letter, where it has one.
 #[derive(Drop)]
 pub enum Named {
     Is(Command),
@@ -105,10 +86,10 @@ pub enum Range {
     Input,
 }
 
-// What a name asks of its operand.
+// What a letter asks of its operand.
 #[derive(Drop)]
 pub enum Asks {
-    // It is no command's name.
+    // It is no command's letter.
     Unknown,
     // No operand.
     Nothing,
@@ -117,7 +98,7 @@ pub enum Asks {
     OrElse(Range, u32),
 }
 
-// A name's row: what it asks, and its command before the number is known.
+// A letter's row: what it asks, and its command before the number is known.
 #[derive(Drop)]
 struct Lettered {
     asks: Asks,
@@ -131,23 +112,16 @@ pub enum Exponent {
     NoPower,
 }
 
-// How a command is written: its name, and its operand.
+// How a command is written: its letter, and its operand.
 #[derive(Drop)]
 pub enum Spelling {
-    Alone(Name),
-    WithNumber(Name, u32),
+    Alone(u8),
+    WithNumber(u8, u32),
     // At least two digits.
-    WithTwoDigits(Name, u32),
+    WithTwoDigits(u8, u32),
 }
 
-// A name that stands at a place, and the place where its operand begins.
-#[derive(Drop)]
-struct Standing {
-    name: Name,
-    behind: usize,
-}
-
-// What a name's operand gives, so that the command is made in one place.
+// What a letter's operand gives, so that the command is made in one place.
 #[derive(Drop)]
 enum Fitted {
     // The number, and the place past it.
@@ -170,25 +144,22 @@ pub fn read_by(s: &[u8], at: usize, most: usize) -> Read
     if s.len() <= at {
         return Read::End;
     }
-    let standing = fitting::name_at(s, at);
-    let row = table::row_of(standing.name);
+    let letter = s[at];
+    let row = table::row_of(letter);
     let asks = row.asks;
     let command = row.command;
-    let fitted = fitting::fit_at(asks, s, standing.behind, most);
+    let fitted = fitting::fit_at(asks, s, at + 1, most);
     match fitted {
         Fitted::Fits(n, next) => Read::At(fitting::numbered(command, n), next),
         Fitted::Fails(code) => Read::Bad(code, at + 1),
     }
 }
 
-// The command of a name with any number, in its range or not.
-pub fn command_of(name: Name, n: u32) -> Named
-    ensures { result ≡ named_of name n }
+// The command of a letter with any number, in its range or not.
+pub fn command_of(letter: u8, n: u32) -> Named
+    ensures { result ≡ named_of letter n }
 {
-    if !table::is_typed(name) {
-        return Named::NoCommand;
-    }
-    let row = table::row_of(name);
+    let row = table::row_of(letter);
     let asks = row.asks;
     let command = row.command;
     match asks {
@@ -199,37 +170,14 @@ pub fn command_of(name: Name, n: u32) -> Named
     }
 }
 
-// The name of a setting.
-pub fn name_of(which: Setting) -> Name
-    ensures { result ≡ setting_name which }
-{
-    match which {
-        Setting::TopSpeed => table::one(b'V'),
-        Setting::Acceleration => table::one(b'L'),
-        Setting::FlagLevel => table::one(b'f'),
-        Setting::Turned => table::one(b'F'),
-        Setting::MoveCurrent => table::one(b'm'),
-        Setting::HoldCurrent => table::one(b'h'),
-        Setting::StepSize => table::one(b'j'),
-        Setting::Correction => table::one(b'o'),
-        Setting::Outputs => table::one(b'J'),
-        Setting::Baud => table::one(b'b'),
-        Setting::Mode => table::one(b'n'),
-        Setting::Distance => table::one(b'B'),
-        Setting::Allowed => table::long(b'C'),
-        Setting::Ratio => table::long(b'E'),
-        Setting::Tries => table::long(b'u'),
-    }
-}
-
 // Writes a command as the host does, from a place of the buffer.
 pub fn write_command(buffer: &mut [u8], at: usize, c: Command) -> Written
     ensures { WrittenIs buffer.old at (spelled c) result buffer.new }
 {
     match writing::command_spelling(c) {
-        Spelling::Alone(name) => writing::write_name(buffer, at, name),
-        Spelling::WithNumber(name, n) => writing::write_number(buffer, at, name, n),
-        Spelling::WithTwoDigits(name, n) => writing::write_two_digits(buffer, at, name, n),
+        Spelling::Alone(letter) => digits::write_byte(buffer, at, letter),
+        Spelling::WithNumber(letter, n) => writing::write_number(buffer, at, letter, n),
+        Spelling::WithTwoDigits(letter, n) => writing::write_two_digits(buffer, at, letter, n),
     }
 }
 

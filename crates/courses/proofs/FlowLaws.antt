@@ -54,11 +54,11 @@ module _ {t : List ℕ} {whole : Course} {xs : List Step} (f : Flow) (h : FlowOk
       a
 
   -- `G n` for another time
-  back-taken : (d m n : ℕ) → f.depth ≡ suc d → Again (suc (get_or f.dones d 0)) m
+  back_taken : (d m n : ℕ) → f.depth ≡ suc d → Again (suc (get_or f.dones d 0)) m
       → ((done : ℕ) → ((m ≡ 0 → ⊥) → done ≡ suc (get_or f.dones d 0)) → Stands t whole (get_or f.starts d 0) (opened (get_or f.starts d 0) done ∷ open_loops d f.starts f.dones) xs)
       → Taken t whole xs (closed d m n f)
   unfolding again
-  back-taken d m n e b a = go (ℕ_discrete m 0)
+  back_taken d m n e b a = go (ℕ_discrete m 0)
     where
       go : Dec (m ≡ 0) → Taken t whole xs (closed d m n f)
       go (yes z) = rw (eq_eqb m 0 z, e) (a (get_or f.dones d 0) (λ u. absurd (u z)))
@@ -83,5 +83,5 @@ module _ {t : List ℕ} {whole : Course} {xs : List Step} (f : Flow) (h : FlowOk
   closed-taken m n a = go f.depth refl a
     where
       go : (k : ℕ) → f.depth ≡ k → Ended t whole n m xs (open_loops k f.starts f.dones) → Taken t whole xs (closed (k - 1) m n f)
-      go (suc d) e (back o l a) = let z : suc d - 1 ≡ d = omega arith in rw z (back-taken d m n e l a)
+      go (suc d) e (back o l a) = let z : suc d - 1 ≡ d = omega arith in rw z (back_taken d m n e l a)
       go (suc d) e (on o l y a) = let z : suc d - 1 ≡ d = omega arith in rw z (on-taken d m n l y a)

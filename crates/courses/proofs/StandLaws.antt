@@ -14,7 +14,7 @@ use Rattle.commands.specs.Reading.{read_at}
 use Rattle.lines.specs.Texts.{these, bare_from}
 use Rattle.lines.specs.Loops.{Skippable}
 use Rattle.motor.specs.Inputs.{level_there}
-use Rattle.lines.proofs.TextLaws.{bare-end, bare-at, bare_is}
+use Rattle.lines.proofs.TextLaws.{bare-end, bare_at, bare_is}
 use Rattle.courses.specs.Meaning.{Course, ends, plain, skip, jump, loop, written, behind_skipped, Again, Step, step, Runs, here, end, taken, tested, skipped, left, looped, looping, Rounds, none, more}
 
 -- an open loop: where its body begins, and how often that has run
@@ -97,14 +97,14 @@ stands-last {t} {whole} {at} {os} s e = go s.course (sym (bare-end t at e) ∙ s
 first_read : (t : List ℕ) (at : ℕ) {d x : Command} {n : ℕ} {xs : List Command} → read_at t at ≡ At d n → bare_from t at ≡ these (x ∷ xs)
     → (x ≡ d) × (bare_from t n ≡ these xs)
 first_read t at {d} {x} {n} {xs} e r =
-    let p = bare_is d (bare_from t n) (x ∷ xs) (sym (bare-at t at e) ∙ r) in
+    let p = bare_is d (bare_from t n) (x ∷ xs) (sym (bare_at t at e) ∙ r) in
     let a : x ≡ d = cc in
     let b : xs ≡ p.0 = cc in
     (a, p.1 ∙ ap these (sym b))
 
 nothing_read : {A : Type 0} (t : List ℕ) (at : ℕ) {d : Command} {n : ℕ} → read_at t at ≡ At d n → bare_from t at ≡ these [] → A
 nothing_read t at {d} {n} e r =
-    let p = bare_is d (bare_from t n) [] (sym (bare-at t at e) ∙ r) in
+    let p = bare_is d (bare_from t n) [] (sym (bare_at t at e) ∙ r) in
     let z : ◌≡◌ {A = ℕ} 0 1 = cc in absurd (omega arith)
 
 -- `G m`, which n follows: back to the start of its loop, counted once more unless it runs for ever; or on

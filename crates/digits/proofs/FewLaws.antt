@@ -11,12 +11,12 @@ use Rattle.digits.specs.Operand.{is_digit, digit_run, few_digits}
 use Rattle.digits.proofs.ReadBack.{no_digit}
 
 -- from every place the run is short
-pub few-at : (most : ℕ) (s : List ℕ) → few_digits most s ≡ true → (at : ℕ) → length (digit_run (drop at s)) ≤ most
+pub few_at : (most : ℕ) (s : List ℕ) → few_digits most s ≡ true → (at : ℕ) → length (digit_run (drop at s)) ≤ most
 unfolding few_digits digit_run
-few-at most [] h zero = omega arith
-few-at most [] h (suc at) = omega arith
-few-at most (b ∷ bs) h zero = leb-true _ most ((and-eq-true_iff (leb (length (digit_run (b ∷ bs))) most) (few_digits most bs)).0 h).0
-few-at most (b ∷ bs) h (suc at) = few-at most bs ((and-eq-true_iff (leb (length (digit_run (b ∷ bs))) most) (few_digits most bs)).0 h).1 at
+few_at most [] h zero = omega arith
+few_at most [] h (suc at) = omega arith
+few_at most (b ∷ bs) h zero = leb-true _ most ((and-eq-true_iff (leb (length (digit_run (b ∷ bs))) most) (few_digits most bs)).0 h).0
+few_at most (b ∷ bs) h (suc at) = few_at most bs ((and-eq-true_iff (leb (length (digit_run (b ∷ bs))) most) (few_digits most bs)).0 h).1 at
 
 -- and a list of which that holds is one
 pub few-when : (most : ℕ) (s : List ℕ) → ((at : ℕ) → length (digit_run (drop at s)) ≤ most) → few_digits most s ≡ true

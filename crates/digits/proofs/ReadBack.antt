@@ -63,12 +63,12 @@ run-rest (b ∷ s) = go (is_digit b) refl (run-rest s)
     go false e r = (refl, rw e)
 
 -- digits as bytes are read as those digits, up to what follows
-pub run-back : {ds : List ℕ} (rest : List ℕ) → Digits ds → digit_run rest ≡ [] → digit_run (ascii ds ++ rest) ≡ ds
+pub run_back : {ds : List ℕ} (rest : List ℕ) → Digits ds → digit_run rest ≡ [] → digit_run (ascii ds ++ rest) ≡ ds
 unfolding digit_run ascii
-run-back rest none e = e
-run-back {ds = d ∷ ds} rest (one h r) e =
+run_back rest none e = e
+run_back {ds = d ∷ ds} rest (one h r) e =
     let back : 48 + d - 48 ≡ d = omega arith in
-    rw (le-leb 48 (48 + d) (omega arith), le-leb (48 + d) 57 (omega arith), back) (ap (λ (l : List ℕ). d ∷ l) (run-back rest r e))
+    rw (le-leb 48 (48 + d) (omega arith), le-leb (48 + d) 57 (omega arith), back) (ap (λ (l : List ℕ). d ∷ l) (run_back rest r e))
 
 -- every byte of digits is a digit
 pub ascii_digit : {ds : List ℕ} → Digits ds → (i : ℕ) → i < length ds → is_digit (get_or (ascii ds) i 0) ≡ true
@@ -270,7 +270,7 @@ pub read_back : (s rest : List ℕ) (at z n : ℕ) → drop at s ≡ spelling z 
 unfolding operand_at
 read_back s rest at z n e t =
     let ds : List ℕ = replicate z 0 ++ digits_of n in
-    let run : digit_run (drop at s) ≡ ds = rw (e, spelling_is z n) (run-back rest (digits_append (zeros z) (digits_digits n)) t) in
+    let run : digit_run (drop at s) ≡ ds = rw (e, spelling_is z n) (run_back rest (digits_append (zeros z) (digits_digits n)) t) in
     let long : length ds ≡ z + length (decimal n) = length-spelled z n in
     let value : value_after 0 ds ≡ n = value_zeros z (digits_of n) ∙ digits_value n in
     rw (run, ← long) (operand-of ds (at + length ds) (omega (arith, length_some n)) ∙ ap (λ (v : ℕ). number_to v (at + length ds)) value)
@@ -279,7 +279,7 @@ read_back s rest at z n e t =
 pub read_length : (s rest : List ℕ) (at z n : ℕ) → drop at s ≡ spelling z n ++ rest → digit_run rest ≡ [] → length (digit_run (drop at s)) ≡ z + length (decimal n)
 read_length s rest at z n e t =
     ap (λ (l : List ℕ). length (digit_run l)) (e ∙ ap (λ (l : List ℕ). l ++ rest) (spelling_is z n))
-    ∙ ap length (run-back rest (digits_append (zeros z) (digits_digits n)) t)
+    ∙ ap length (run_back rest (digits_append (zeros z) (digits_digits n)) t)
     ∙ length-spelled z n
 
 pub read_limited : (most : ℕ) (s rest : List ℕ) (at z n : ℕ) → drop at s ≡ spelling z n ++ rest → digit_run rest ≡ []
@@ -304,7 +304,7 @@ spelled s at n next e =
 pub written_apart : (m n : ℕ) → decimal m ≡ decimal n → m ≡ n
 unfolding decimal digit_run
 written_apart m n e =
-    let back : (k : ℕ) → digit_run (decimal k) ≡ digits_of k = λ k. rw (← append-nil (ascii (digits_of k))) (run-back [] (digits_digits k) refl) in
+    let back : (k : ℕ) → digit_run (decimal k) ≡ digits_of k = λ k. rw (← append-nil (ascii (digits_of k))) (run_back [] (digits_digits k) refl) in
     let same : digits_of m ≡ digits_of n = sym (back m) ∙ ap digit_run e ∙ back n in
     sym (digits_value m) ∙ ap (λ (l : List ℕ). value_after 0 l) same ∙ digits_value n
 

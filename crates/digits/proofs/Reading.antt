@@ -104,16 +104,16 @@ past-run s at i v d r h =
 
 -- ---- what is returned, from the capped value and the place past the run
 
-pub at-missing : (run : List ℕ) (at i : ℕ) → i ≡ at → i ≡ at + length run → Missing ≡ operand_of run (at + length run)
+pub at_missing : (run : List ℕ) (at i : ℕ) → i ≡ at → i ≡ at + length run → Missing ≡ operand_of run (at + length run)
 unfolding operand_of
-at-missing [] at i e h = refl
-at-missing (d ∷ ds) at i e h = absurd (omega arith)
+at_missing [] at i e h = refl
+at_missing (d ∷ ds) at i e h = absurd (omega arith)
 
-pub at-number : (run : List ℕ) (at i v : ℕ) → (i ≡ at → ⊥) → i ≡ at + length run → cap v ≡ cap (value_after 0 run) → v ≤ widest
+pub at_number : (run : List ℕ) (at i v : ℕ) → (i ≡ at → ⊥) → i ≡ at + length run → cap v ≡ cap (value_after 0 run) → v ≤ widest
     → Number v i ≡ operand_of run (at + length run)
 unfolding operand_of
-at-number [] at i v n h e l = absurd (n (omega arith))
-at-number (d ∷ ds) at i v n h e l =
+at_number [] at i v n h e l = absurd (n (omega arith))
+at_number (d ∷ ds) at i v n h e l =
     let same : value_after 0 (d ∷ ds) ≡ v = omega arith in
     rw (same, ← h) (simp (le-leb _ _ l))
 

@@ -1,6 +1,6 @@
 -- What is claimed of operands and decimals together: what is written is read back, and what reads as a number spells it.
 -- 01: "decimal, leading zeros allowed", "without leading zeros", "4294967297 becomes 1" (it does not). Assumes nothing.
-use Rattle.std.specs.Prelude.{ℕ, ◌+◌, ◌^◌, ◌<◌, List, [], ◌++◌, ◌≡◌, cond, leb, length, drop, replicate}
+use Rattle.std.specs.Prelude.{ℕ, ◌+◌, ◌^◌, ◌<◌, List, [], ◌∷◌, ◌++◌, ◌≡◌, cond, leb, length, drop, replicate}
 use Rattle.parts.specs.Letters.{byte, bytes}
 use Rattle.digits.specs.Operand.{digit_run, value_after, number_to, operand_at, operand_most, operand_up_to}
 use Rattle.digits.specs.Decimal.{decimal}
@@ -19,13 +19,13 @@ pub record SpelledAt (s : List ℕ) (at n next : ℕ) : Type 0 where
 
 pub record DigitClaims : Type 0 where
   -- a spelling of n reads as n, whatever follows that begins with no digit: for every n, however long
-  pub reads-back : (s rest : List ℕ) (at z n : ℕ) → drop at s ≡ spelling z n ++ rest → digit_run rest ≡ []
+  pub reads_back : (s rest : List ℕ) (at z n : ℕ) → drop at s ≡ spelling z n ++ rest → digit_run rest ≡ []
       → operand_at s at ≡ number_to n (at + (z + length (decimal n)))
   -- what reads as n is a spelling of n
   pub spelled : (s : List ℕ) (at n next : ℕ) → operand_at s at ≡ Number n next → SpelledAt s at n next
   -- 02, E9: where the digits are limited, a spelling of n reads as n exactly while it has so many at most, leading zeros counted:
   -- for every limit and every n
-  pub reads-limited : (most : ℕ) (s rest : List ℕ) (at z n : ℕ) → drop at s ≡ spelling z n ++ rest → digit_run rest ≡ []
+  pub reads_limited : (most : ℕ) (s rest : List ℕ) (at z n : ℕ) → drop at s ≡ spelling z n ++ rest → digit_run rest ≡ []
       → operand_up_to most s at
       ≡ cond (leb (z + length (decimal n)) most) (number_to n (at + (z + length (decimal n)))) (Above (at + (z + length (decimal n))))
   -- no two numbers are written alike

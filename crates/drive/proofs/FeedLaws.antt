@@ -3,7 +3,7 @@
 use Prim.Native.Nat.{ℕ, ◌≤◌}
 use mathlib.Core.Path.{◌≡◌, refl, ap, ◌∙◌}
 use mathlib.Core.List.{List, [], ◌∷◌}
-use mathlib.Core.Bool.{Bool, true, false, cond, not}
+use mathlib.Core.Bool.{Bool, true, false, not}
 use native.Mathlib.Omega.{arith}
 use lib.ListN.{length}
 use lib.Dec.{ltb}
@@ -20,16 +20,11 @@ use Rattle.frames.specs.declared.Framing.{Framing}
 use Rattle.frames.specs.declared.Heard.{Heard}
 use Rattle.frames.specs.Receive.{Received, receiver_of, heard_with, receive_of}
 use Rattle.frames.specs.contracts.Frame as frame
-use Rattle.motor.specs.declared.Wait.{Wait}
-use Rattle.motor.specs.Motion.{waiting}
 use Rattle.turns.specs.declared.Core.{Core}
-use Rattle.turns.specs.Turns.{with_motor, jog_ended}
-use Rattle.obeying.specs.declared.Write.{Write}
 use Rattle.obeying.specs.declared.Obeyed.{Obeyed}
-use Rattle.obeying.specs.Obeying.{busy, obeyed, data_of, body_obeyed, text_written, image_written, room_for, obeyed_on}
-use Rattle.obeying.specs.Deeds.{Obeys, nothing-told, refuses, tells, stores, clears, stops, resumes, speeds, again, loads}
+use Rattle.obeying.specs.Obeying.{data_of, body_obeyed}
+use Rattle.obeying.specs.Deeds.{Obeys, tells, nothing-told}
 use Rattle.obeying.proofs.DeedLaws.{body-does}
-use Rattle.obeying.proofs.RoomLaws.{written_in, held-text, held-image, held_parts, does-on}
 use Rattle.drive.specs.declared.Last.{Last}
 use Rattle.drive.specs.declared.Record.{Record}
 use Rattle.drive.specs.declared.FeedAnswer.{FeedAnswer}
@@ -42,52 +37,16 @@ use Rattle.drive.specs.Steps.{feed_answer, WriteDone, PacketOf, sent_to, Answere
 
 -- ---- a frame obeyed
 
-pub frame-does : (f : Frame) (body image : List ℕ) (c : Core) → Obeys body c (frame_obeyed f body image c)
-frame-does Frame.Nothing body image c = tells _ nothing-told
-frame-does Frame.Alone body image c = does-on body image c
-frame-does Frame.Group body image c = does-on body image c
+pub frame-does : (f : Frame) (body : List ℕ) (c : Core) → Obeys body c (frame_obeyed f body c)
+frame-does Frame.Nothing body c = tells _ nothing-told
+frame-does Frame.Alone body c = body-does body c
+frame-does Frame.Group body c = body-does body c
 
 -- what the `else` of a `let` knows
-completed : (f : Frame) (body image : List ℕ) (c : Core) → OneOf (1 ∷ 2 ∷ []) (tag_of frame.the_type f) → obeyed_on body image c ≡ frame_obeyed f body image c
-completed Frame.Nothing body image c k = absurd (not_tag 1 2 0 (λ e. omega arith) (λ e. omega arith) k)
-completed Frame.Alone body image c k = refl
-completed Frame.Group body image c k = refl
-
--- a core that waits again for what it waited for
-abbrev pub waits_again : Wait → Core → Core
-waits_again w c = with_motor (waiting w c.motor) c
-
--- where there was no room a store was to be made, and that changes the wait alone
-waits_still : {body : List ℕ} {c : Core} {o : Obeyed} (image : List ℕ) → Obeys body c o
-    → cond (room_for o.write body image) o.core (waits_again c.motor.wait o.core) ≡ cond (room_for o.write body image) o.core c
-waits_still image (refuses f l p) = refl
-waits_still image (tells t l) = refl
-waits_still {body} {c} image (stores slot at n i l) = go (room_for (Write.Store slot at n) body image)
-  where
-    go : (b : Bool) → cond b (jog_ended c) (waits_again c.motor.wait (jog_ended c)) ≡ cond b (jog_ended c) c
-    go true = refl
-    go false = refl
-waits_still image clears = refl
-waits_still image (stops e r) = refl
-waits_still image resumes = refl
-waits_still image (speeds n s) = refl
-waits_still image (again r) = refl
-waits_still image (loads run n r l) = refl
-
--- what was obeyed, core and code by the room that there was
-pub held_as : (body image : List ℕ) (c : Core) {o : Obeyed} {room : Bool} {d : Core} {code : ℕ} → o ≡ body_obeyed body c → room ≡ room_for o.write body image
-    → code ≡ cond room o.code busy → d ≡ cond room o.core (waits_again c.motor.wait o.core)
-    → obeyed d code o.tell (written_in room o.write) ≡ obeyed_on body image c
-held_as body image c e r k h = rw (k, h, r, e, waits_still image (body-does body c)) (held_parts image (body-does body c))
-
--- what is written is what is left, whether there was room or not
-pub text-left : (w : Write) {body text image text' image' : List ℕ} {room : Bool} → WriteDone w body text image room text' image'
-    → text' ≡ text_written (written_in room w) body text
-text-left w {body} {text} {image} d = rw (d.had_room, held-text w body image text) d.to_text
-
-pub image-left : (w : Write) {body text image text' image' : List ℕ} {room : Bool} → WriteDone w body text image room text' image'
-    → image' ≡ image_written (written_in room w) body image
-image-left w {body} {text} {image} d = rw (d.had_room, held-image w body image) d.to_image
+completed : (f : Frame) (body : List ℕ) (c : Core) → OneOf (1 ∷ 2 ∷ []) (tag_of frame.the_type f) → body_obeyed body c ≡ frame_obeyed f body c
+completed Frame.Nothing body c k = absurd (not_tag 1 2 0 (λ e. omega arith) (λ e. omega arith) k)
+completed Frame.Alone body c k = refl
+completed Frame.Group body c k = refl
 
 -- ---- what answers
 
@@ -120,7 +79,7 @@ answer_parts g o text e a = rw (← e) a
 
 module _ (u : Drive) (bytes image buffer : List ℕ) where
   abbrev taken : Feeding
-  taken = feed_taken (received_by u bytes) (body_by u bytes) (obeyed_by u bytes image) u image buffer
+  taken = feed_taken (received_by u bytes) (body_by u bytes) (obeyed_by u bytes) u image buffer
 
   abbrev by_answer : FeedAnswer → Feeding
   by_answer FeedAnswer.Taken = taken
@@ -162,8 +121,8 @@ room-there image buffer e = go (ltb (length buffer) packet_bytes) refl
 module _ (u : Record) (h : Heard) (body text image buffer : List ℕ) where
   -- a completed frame from its steps
   pub frame-fed : {kept text' image' buffer' : List ℕ} {o : Obeyed} {n : ℕ} {last : Last} → kept ≡ body_for u.last (heard_with h body)
-      → o ≡ obeyed_on kept image u.core
-      → text' ≡ text_written o.write kept text → image' ≡ image_written o.write kept image → AnsweredIs h.frame (answer_to h.framing o text') buffer n buffer'
+      → o ≡ body_obeyed kept u.core
+      → WriteDone o.write kept text image text' image' → AnsweredIs h.frame (answer_to h.framing o text') buffer n buffer'
       → last ≡ last_after h.frame h.framing o.code u.last
       → fed_with
       (record {
@@ -173,9 +132,9 @@ module _ (u : Record) (h : Heard) (body text image buffer : List ℕ) where
         answer = FeedAnswer.Taken;
       })
       body text' image' buffer'
-      ≡ feed_taken (heard_with h body) (body_for u.last (heard_with h body)) (obeyed_on (body_for u.last (heard_with h body)) image u.core) (unit_of u body text)
+      ≡ feed_taken (heard_with h body) (body_for u.last (heard_with h body)) (body_obeyed (body_for u.last (heard_with h body)) u.core) (unit_of u body text)
       image buffer
-  frame-fed {text' = text'} {o = o} k e t i a l = rw (l, a.answers, a.leaves, sent_answer h.frame h.framing o text', t, i, e, k)
+  frame-fed {text' = text'} {o = o} k e w a l = rw (l, a.answers, a.leaves, sent_answer h.frame h.framing o text', w.to_text, w.to_image, e, k)
 
   -- none completed: nothing but the receiver changes
   pub nothing-fed : h.frame ≡ Frame.Nothing
@@ -187,23 +146,23 @@ module _ (u : Record) (h : Heard) (body text image buffer : List ℕ) where
         answer = FeedAnswer.Taken;
       })
       body text image buffer
-      ≡ feed_taken (heard_with h body) (body_for u.last (heard_with h body)) (received_obeyed u.last (heard_with h body) image u.core) (unit_of u body text) image
+      ≡ feed_taken (heard_with h body) (body_for u.last (heard_with h body)) (received_obeyed u.last (heard_with h body) u.core) (unit_of u body text) image
       buffer
   nothing-fed f = rw (f, put-nothing buffer)
 
 module _ (u : Record) (body text bytes image buffer : List ℕ) {after : List ℕ} {h : Heard} where
   -- what was heard is what the definition receives
   pub fed-heard : FeedAnswer.Taken ≡ feed_answer image buffer → heard_with h after ≡ receive_of (receiver_of u.progress body) u.number bytes
-      → feed_taken (heard_with h after) (body_for u.last (heard_with h after)) (received_obeyed u.last (heard_with h after) image u.core) (unit_of u after text)
+      → feed_taken (heard_with h after) (body_for u.last (heard_with h after)) (received_obeyed u.last (heard_with h after) u.core) (unit_of u after text)
       image buffer
       ≡ feed_of (unit_of u body text) bytes image buffer
   fed-heard a w =
-      ap (λ (r : Received). feed_taken r (body_for u.last r) (received_obeyed u.last r image u.core) (unit_of u body text) image buffer) w
+      ap (λ (r : Received). feed_taken r (body_for u.last r) (received_obeyed u.last r u.core) (unit_of u body text) image buffer) w
       ∙ fed-taken (unit_of u body text) bytes image buffer a
 
   pub fed-frame : FeedAnswer.Taken ≡ feed_answer image buffer → heard_with h after ≡ receive_of (receiver_of u.progress body) u.number bytes
       → OneOf (1 ∷ 2 ∷ []) (tag_of frame.the_type h.frame)
-      → feed_taken (heard_with h after) (body_for u.last (heard_with h after)) (obeyed_on (body_for u.last (heard_with h after)) image u.core)
+      → feed_taken (heard_with h after) (body_for u.last (heard_with h after)) (body_obeyed (body_for u.last (heard_with h after)) u.core)
       (unit_of u after text) image buffer
       ≡ feed_of (unit_of u body text) bytes image buffer
-  fed-frame a w k = rw (completed h.frame (body_for u.last (heard_with h after)) image u.core k) (fed-heard a w)
+  fed-frame a w k = rw (completed h.frame (body_for u.last (heard_with h after)) u.core k) (fed-heard a w)

@@ -3,7 +3,6 @@
 use Prim.Native.Nat.{ℕ}
 use mathlib.Core.Path.{◌≡◌, ap, sym, ◌∙◌}
 use mathlib.Core.List.{List, []}
-use lib.IntN.{ℤ}
 use Rattle.drive.specs.declared.Record.{Record}
 use Rattle.drive.specs.declared.Started.{Started}
 use Rattle.drive.specs.declared.Fed.{Fed}
@@ -42,7 +41,7 @@ fed_once d e =
       ap (λ (g : Feeding). g.buffer) f,
     )
 
-pub turned_once : (u : Record) (text : List ℕ) (sample ms steps : ℕ) (count : ℤ) (image : List ℕ) {r q : Turned} {t v : List ℕ}
-    → TurnedIs u text sample ms steps count image r t → TurnedIs u text sample ms steps count image q v → (r ≡ q) × (t ≡ v)
+pub turned_once : (u : Record) (text : List ℕ) (sample ms steps : ℕ) (image : List ℕ) {r q : Turned} {t v : List ℕ}
+    → TurnedIs u text sample ms steps image r t → TurnedIs u text sample ms steps image q v → (r ≡ q) × (t ≡ v)
 unfolding turned_in record_in
-turned_once u text sample ms steps count image d e = let f = d [] ∙ sym (e []) in (ap turned_in f, ap (λ (g : Turning). g.unit.text) f)
+turned_once u text sample ms steps image d e = let f = d [] ∙ sym (e []) in (ap turned_in f, ap (λ (g : Turning). g.unit.text) f)

@@ -1,8 +1,8 @@
--- The calls that firmware makes: start, feed, turn. 01, "Frames", "What comes back", "Image of the programs", "A turn"; 02, E1, E7 and E9.
+-- The calls that firmware makes: start, feed, turn. 01, "Frames", "What comes back", "Image of the programs", "A turn"; 02, E1 and E9.
 -- Assumes nothing.
-use Rattle.std.specs.Prelude.{ℕ, List, [], Bool, true, false, cond, not, ℤ, length, ltb}
-use Rattle.parts.specs.Parts.{put_in, padded_text, most_bytes}
-use Rattle.image.specs.Image.{right_length, image_by, slot_good, slot_text}
+use Rattle.std.specs.Prelude.{ℕ, List, [], Bool, true, false, cond, not, length, ltb}
+use Rattle.parts.specs.Parts.{put_in, padded_text}
+use Rattle.image.specs.Image.{right_length, slots, slot_good, slots_older, slot_text}
 use Rattle.frames.specs.declared.Frame.{Frame}
 use Rattle.frames.specs.declared.Framing.{Framing}
 use Rattle.frames.specs.Addresses.{is_unit}
@@ -15,7 +15,7 @@ use Rattle.turns.specs.Turns.{fresh_core, started, ended, slot_broken, turn_core
 use Rattle.answers.specs.Packet.{packet, packet_bytes, status_of}
 use Rattle.answers.specs.Oem.{oem_packet}
 use Rattle.obeying.specs.declared.Obeyed.{Obeyed}
-use Rattle.obeying.specs.Obeying.{data_of, nothing_obeyed, obeyed_on, text_written, image_written}
+use Rattle.obeying.specs.Obeying.{data_of, nothing_obeyed, body_obeyed, text_written, image_written}
 use Rattle.drive.specs.declared.Last.{Last}
 use Rattle.drive.specs.declared.StartAnswer.{StartAnswer}
 use Rattle.drive.specs.declared.FeedAnswer.{FeedAnswer}
@@ -54,13 +54,13 @@ fresh_unit number image body =
 unfoldable pub no_unit : List ℕ → List ℕ → Drive
 no_unit body text = drive 0 (fresh_receiver body) text fresh_core Last.Never
 
--- "at start: unit number not 1 to 16, then image not 4,160 bytes, then bad image"; 02, E7: "neither length"; 02, E9: a program stored earlier
--- with an operand of more than ten digits "at start .. does not refuse the unit"
+-- "at start: unit number not 1 to 16, then image not 4,160 bytes, then bad image"; 02, E9: a program stored earlier with an operand
+-- of more than ten digits "at start .. does not refuse the unit"
 unfoldable pub start_of : ℕ → List ℕ → List ℕ → List ℕ → Starting
 start_of number image body text =
     cond (is_unit number)
     (cond (right_length image)
-    (cond (image_by most_bytes image) (starting StartAnswer.Started (fresh_unit number image body)) (starting StartAnswer.ImageBad (no_unit body text)))
+    (cond (slots_older image slots) (starting StartAnswer.Started (fresh_unit number image body)) (starting StartAnswer.ImageBad (no_unit body text)))
     (starting StartAnswer.ImageLength (no_unit body text)))
     (starting StartAnswer.UnitNumber (no_unit body text))
 
@@ -83,24 +83,24 @@ feed_refused a u image buffer = record { answer = a; unit = u; consumed = 0; ans
 abbrev pub received_by : Drive → List ℕ → Received
 received_by u bytes = receive_of u.receiver u.number bytes
 
--- the body of a completed frame, obeyed on the image that is lent
-abbrev pub frame_obeyed : Frame → List ℕ → List ℕ → Core → Obeyed
-frame_obeyed Frame.Nothing body image c = nothing_obeyed c
-frame_obeyed Frame.Alone body image c = obeyed_on body image c
-frame_obeyed Frame.Group body image c = obeyed_on body image c
+-- the body of a completed frame, obeyed
+abbrev pub frame_obeyed : Frame → List ℕ → Core → Obeyed
+frame_obeyed Frame.Nothing body c = nothing_obeyed c
+frame_obeyed Frame.Alone body c = body_obeyed body c
+frame_obeyed Frame.Group body c = body_obeyed body c
 
 -- the body that is obeyed: a repeat chooses it
 abbrev pub body_for : Last → Received → List ℕ
 body_for last r = chosen last r.framing (body_in r.receiver)
 
-abbrev pub received_obeyed : Last → Received → List ℕ → Core → Obeyed
-received_obeyed last r image c = frame_obeyed r.frame (body_for last r) image c
+abbrev pub received_obeyed : Last → Received → Core → Obeyed
+received_obeyed last r c = frame_obeyed r.frame (body_for last r) c
 
 abbrev pub body_by : Drive → List ℕ → List ℕ
 body_by u bytes = body_for u.last (received_by u bytes)
 
-abbrev pub obeyed_by : Drive → List ℕ → List ℕ → Obeyed
-obeyed_by u bytes image = received_obeyed u.last (received_by u bytes) image u.core
+abbrev pub obeyed_by : Drive → List ℕ → Obeyed
+obeyed_by u bytes = received_obeyed u.last (received_by u bytes) u.core
 
 -- the text that it leaves
 abbrev pub text_then : List ℕ → Obeyed → List ℕ → List ℕ
@@ -133,12 +133,11 @@ feed_taken r body o u image buffer =
       buffer = put_in buffer 0 (answer_for r.frame r.framing o (text_then body o u.text));
     }
 
--- "answer buffer under 262 bytes | named refusal, 0 consumed, nothing changed"; "image not 4,160 bytes | the same; tested after the buffer", and
--- by 02, E7, "neither length"
+-- "answer buffer under 262 bytes | named refusal, 0 consumed, nothing changed"; "image not 4,160 bytes | the same; tested after the buffer"
 unfoldable pub feed_of : Drive → List ℕ → List ℕ → List ℕ → Feeding
 feed_of u bytes image buffer =
     cond (ltb (length buffer) packet_bytes) (feed_refused FeedAnswer.BufferShort u image buffer)
-    (cond (right_length image) (feed_taken (received_by u bytes) (body_by u bytes) (obeyed_by u bytes image) u image buffer)
+    (cond (right_length image) (feed_taken (received_by u bytes) (body_by u bytes) (obeyed_by u bytes) u image buffer)
     (feed_refused FeedAnswer.ImageLength u image buffer))
 
 -- ---- turn
@@ -168,11 +167,11 @@ turn_taken s image u =
       action = action_answered s.core.settings.turned s.core.motor.last;
     }
 
--- 02, E11: "A turn is given the encoder count too"; "sample over 15, then too many microsteps, in a turn: .. tested after the image length"
-unfoldable pub turn_of : Drive → ℕ → ℕ → ℕ → ℤ → List ℕ → Turning
-turn_of u sample ms steps count image =
+-- "sample over 15, then too many microsteps, in a turn: .. tested after the image length"
+unfoldable pub turn_of : Drive → ℕ → ℕ → ℕ → List ℕ → Turning
+turn_of u sample ms steps image =
     cond (right_length image)
     (cond (ltb most_sample sample) (turn_refused TurnAnswer.Sample u)
     (cond (ltb u.core.motor.last.number steps) (turn_refused TurnAnswer.Steps u)
-    (turn_taken (turn_core sample ms steps count u.text image u.core) image u)))
+    (turn_taken (turn_core sample ms steps u.text image u.core) image u)))
     (turn_refused TurnAnswer.ImageLength u)

@@ -1,6 +1,6 @@
 -- What the calls promise: their results, put together with the texts, the image and the buffer at exit, are what the definitions say.
 -- Assumes nothing.
-use Rattle.std.specs.Prelude.{ℕ, ◌≡◌, List, ℤ}
+use Rattle.std.specs.Prelude.{ℕ, ◌≡◌, List}
 use Rattle.drive.specs.declared.Record.{Record}
 use Rattle.drive.specs.declared.Started.{Started}
 use Rattle.drive.specs.declared.Fed.{Fed}
@@ -26,6 +26,6 @@ abbrev pub turned_with : Turned → List ℕ → List ℕ → Turning
 turned_with r body text = record { answer = r.answer; unit = unit_of r.unit body text; action = r.action }
 
 -- a turn is not lent the body, and leaves it whatever it is
-abbrev pub TurnedIs : Record → List ℕ → ℕ → ℕ → ℕ → ℤ → List ℕ → Turned → List ℕ → Type 0
-TurnedIs u text sample ms steps count image r after =
-    (body : List ℕ) → turned_with r body after ≡ turn_of (unit_of u body text) sample ms steps count image
+abbrev pub TurnedIs : Record → List ℕ → ℕ → ℕ → ℕ → List ℕ → Turned → List ℕ → Type 0
+TurnedIs u text sample ms steps image r after =
+    (body : List ℕ) → turned_with r body after ≡ turn_of (unit_of u body text) sample ms steps image

@@ -1,6 +1,6 @@
 -- For the code: the steps of a feed call and of a turn, one after the other.
 -- Assumes nothing.
-use Rattle.std.specs.Prelude.{ℕ, List, [], Bool, cond, ◌≡◌, ℤ, length, ltb}
+use Rattle.std.specs.Prelude.{ℕ, List, [], cond, ◌≡◌, length, ltb}
 use Rattle.parts.specs.Parts.{put_in}
 use Rattle.image.specs.Image.{right_length}
 use Rattle.answers.specs.Packet.{packet_bytes}
@@ -11,7 +11,7 @@ use Rattle.turns.specs.declared.Enter.{Enter}
 use Rattle.turns.specs.declared.Stepped.{Stepped}
 use Rattle.turns.specs.Turns.{turn_core, action_answered}
 use Rattle.obeying.specs.declared.Write.{Write}
-use Rattle.obeying.specs.Obeying.{text_written, image_written, room_for}
+use Rattle.obeying.specs.Obeying.{text_written, image_written}
 use Rattle.drive.specs.declared.FeedAnswer.{FeedAnswer}
 use Rattle.drive.specs.declared.TurnAnswer.{TurnAnswer}
 use Rattle.drive.specs.declared.TurnedCore.{TurnedCore}
@@ -24,9 +24,8 @@ abbrev pub feed_answer : List ℕ → List ℕ → FeedAnswer
 feed_answer image buffer =
     cond (ltb (length buffer) packet_bytes) FeedAnswer.BufferShort (cond (right_length image) FeedAnswer.Taken FeedAnswer.ImageLength)
 
--- what a body has to write, written: whether there was room, the text and the image
-pub record WriteDone (w : Write) (body text image : List ℕ) (room : Bool) (text' image' : List ℕ) : Type 0 where
-  pub had_room : room ≡ room_for w body image
+-- what a body has to write, written: the text and the image
+pub record WriteDone (w : Write) (body text image text' image' : List ℕ) : Type 0 where
   pub to_text : text' ≡ text_written w body text
   pub to_image : image' ≡ image_written w body image
 
@@ -56,9 +55,9 @@ core_taken s =
     record { core = s.core; enter = s.enter; action = action_answered s.core.settings.turned s.core.motor.last; answer = TurnAnswer.Taken }
 
 -- a turn of the core, or why it is refused
-abbrev pub core_turned : Core → ℕ → ℕ → ℕ → ℤ → List ℕ → List ℕ → TurnedCore
-core_turned c sample ms steps count text image =
+abbrev pub core_turned : Core → ℕ → ℕ → ℕ → List ℕ → List ℕ → TurnedCore
+core_turned c sample ms steps text image =
     cond (right_length image)
     (cond (ltb most_sample sample) (core_refused TurnAnswer.Sample c)
-    (cond (ltb c.motor.last.number steps) (core_refused TurnAnswer.Steps c) (core_taken (turn_core sample ms steps count text image c))))
+    (cond (ltb c.motor.last.number steps) (core_refused TurnAnswer.Steps c) (core_taken (turn_core sample ms steps text image c))))
     (core_refused TurnAnswer.ImageLength c)

@@ -1,11 +1,8 @@
 // What a feed call hears, and a completed frame obeyed.
-ghost use Rattle.std.specs.Prelude.{◌≡◌, List, ℕ, ◌≤◌, length, cond, not};
+ghost use Rattle.std.specs.Prelude.{◌≡◌, List, ℕ, ◌≤◌, length, not};
 ghost use Rattle.answers.specs.Packet.{packet_bytes, status_of};
 ghost use Rattle.frames.specs.Receive.{heard_with};
-ghost use Rattle.image.specs.Calls.{is_full};
-ghost use Rattle.motor.specs.Motion.{waiting};
-ghost use Rattle.turns.specs.Turns.{with_motor};
-ghost use Rattle.obeying.specs.Obeying.{busy, obeyed_on};
+ghost use Rattle.obeying.specs.Obeying.{body_obeyed};
 ghost use Rattle.drive.specs.Unit.{unit_of};
 ghost use Rattle.drive.specs.declared.FeedAnswer.{FeedAnswer};
 ghost use Rattle.drive.specs.Calls.{feed_refused, body_for, feed_taken};
@@ -14,8 +11,6 @@ ghost use Rattle.drive.specs.Steps.{feed_answer, WriteDone};
 
 use crate::{Fed, FeedAnswer, Record};
 use frames::Heard;
-use image::Stored;
-use motor::{Motor, Wait};
 use obeying::Write;
 use turns::Core;
 
@@ -73,9 +68,6 @@ pub(crate) fn feed_nothing(u: Record, h: Heard) -> Fed
     }
 }
 
-// The code of a store that there is no room for.
-const BUSY: u8 = 15;
-
 // A call that completes a frame: its body, or what a repeat chooses of it, is obeyed, what it has to write is written, and the answer.
 pub(crate) fn feed_frame(
     u: Record,
@@ -88,7 +80,7 @@ pub(crate) fn feed_frame(
     requires { packet_bytes ≤ length buffer.old }
     ensures { fed_with result body.now text.new image.new buffer.new
         ≡ feed_taken (heard_with h body.now) (body_for u.last (heard_with h body.now))
-        (obeyed_on (body_for u.last (heard_with h body.now)) image.old u.core)
+        (body_obeyed (body_for u.last (heard_with h body.now)) u.core)
         (unit_of u body.now text.old) image.old buffer.old }
 {
     let progress = h.progress;
@@ -97,18 +89,14 @@ pub(crate) fn feed_frame(
     let last = u.last;
     let kept = parts::first(body, progress.length);
     let chosen = crate::repeats::choose(last, framing, kept);
-    let m = c.motor;
-    let wait = m.wait;
     let o = obeying::obey(c, chosen);
     let write = o.write;
-    let room = apply(write, chosen, text, image);
-    let code = code_after(room, o.code);
+    apply(write, chosen, text, image);
     let frame = h.frame;
-    let changed = o.core;
-    let core = core_after(room, changed, wait);
+    let core = o.core;
     let flow = core.flow;
     let tell = o.tell;
-    let status = status_after(core, code);
+    let status = status_after(core, o.code);
     let answered = crate::answering::answer_completed(
         frame,
         framing,
@@ -118,7 +106,7 @@ pub(crate) fn feed_frame(
         text,
         buffer,
     );
-    let number = crate::repeats::last_after(frame, framing, code, last);
+    let number = crate::repeats::last_after(frame, framing, o.code, last);
     Fed {
         unit: Record {
             core: core,
@@ -139,66 +127,20 @@ fn status_after(c: Core, code: u8) -> u8
     answers::status(!c.running, code)
 }
 
-// The code that is answered: where there was no room, that of a refused store.
-fn code_after(room: bool, code: u8) -> u8
-    ensures { result ≡ cond room code busy }
-{
-    if room { code } else { BUSY }
-}
-
-// The core that is left: where there was no room, what was waited for before still is, which is all that a store changes.
-fn core_after(room: bool, changed: Core, wait: Wait) -> Core
-    ensures { result ≡ cond room changed (with_motor (waiting wait changed.motor) changed) }
-{
-    if room {
-        return changed;
-    }
-    let m = changed.motor;
-    let last = m.last;
-    let encoder = m.encoder;
-    let waiting = Motor {
-        position: m.position,
-        known: m.known,
-        sample: m.sample,
-        wait: wait,
-        last: last,
-        encoder: encoder,
-        overload: m.overload,
-    };
-    let mut d = changed;
-    d.motor = waiting;
-    d
-}
-
-// What a body has to write, written to the text and the image; whether there was room.
-fn apply(w: Write, body: &[u8], text: &mut [u8; crate::TEXT_BYTES], image: &mut [u8]) -> bool
-    ensures { WriteDone w body.now text.old image.old result text.new image.new }
+// What a body has to write, written to the text and the image.
+fn apply(w: Write, body: &[u8], text: &mut [u8; crate::TEXT_BYTES], image: &mut [u8])
+    ensures { WriteDone w body.now text.old image.old text.new image.new }
 {
     match w {
-        Write::Nothing => true,
+        Write::Nothing => {}
         Write::Text(n) => {
             parts::put_text(text, parts::first(body, n));
-            true
         }
         Write::Store { slot, at, length } => {
-            had_room(image::store(image, slot, parts::part(body, at, length)))
+            image::store(image, slot, parts::part(body, at, length));
         }
         Write::Clear => {
             image::clear(image);
-            true
         }
-    }
-}
-
-// Whether a store had room.
-fn had_room(s: Stored) -> bool
-    ensures { result ≡ not (is_full s) }
-{
-    match s {
-        Stored::Done => true,
-        Stored::WrongLength => true,
-        Stored::NoSlot => true,
-        Stored::TooLong => true,
-        Stored::Full => false,
     }
 }

@@ -147,13 +147,12 @@ pub fn turn(
     sample: u8,
     ms: u32,
     steps: u32,
-    count: i32,
     image: &[u8],
 ) -> Turned
-    ensures { TurnedIs u text.old sample ms steps count image.now result text.new }
+    ensures { TurnedIs u text.old sample ms steps image.now result text.new }
 {
     let c = u.core;
-    let t = turning::turn_core(c, sample, ms, steps, count, text, image);
+    let t = turning::turn_core(c, sample, ms, steps, text, image);
     let enter = t.enter;
     turning::enter_text(text, enter, image);
     let core = t.core;

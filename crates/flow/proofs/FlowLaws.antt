@@ -16,7 +16,7 @@ use Rattle.commands.specs.declared.Read.TheVariants.{At, Bad}
 use Rattle.commands.specs.Reading.{read_at}
 use Rattle.lines.specs.Texts.{most_open}
 use Rattle.lines.specs.Loops.{Enclosed, start, next, open_after, enclosing, Checked, Skippable}
-use Rattle.lines.proofs.LoopLaws.{lawful, at-most-four, backs, enclosed_by}
+use Rattle.lines.proofs.LoopLaws.{lawful, at_most-four, backs, enclosed_by}
 use Rattle.flow.specs.declared.Flow.{Flow}
 use Rattle.flow.specs.Flow.{begun, gone, opened, again, bumped, backed, left, closed, goes, loop_begun, loop_ended, opens}
 
@@ -41,7 +41,7 @@ opens-set (suc d) i x s h = rw (get_or-set_other s i d x 0 (omega arith), opens-
 
 -- "at most four open"
 pub depth_most : {t : List ℕ} {f : Flow} → FlowOk t f → f.depth ≤ most_open
-depth_most {t} {f} h = omega (arith, at-most-four h.checked h.place, opens-length f.depth f.starts)
+depth_most {t} {f} h = omega (arith, at_most-four h.checked h.place, opens-length f.depth f.starts)
 
 -- ---- the count of a loop
 

@@ -44,14 +44,14 @@ none : Counted.Commands 0 ≡ count_text []
 unfolding count_text any_barred reading_in reading_by read_by unplaced tail_of course_of cost course_in commands_in
 none = refl
 
-none-at : (f : Fault) (t : List ℕ) → f.code ≡ 0 → t ≡ [] → Counted.Commands 0 ≡ unless_refused f (count_text t)
-none-at f t c e = rw (c, e) none
+none_at : (f : Fault) (t : List ℕ) → f.code ≡ 0 → t ≡ [] → Counted.Commands 0 ≡ unless_refused f (count_text t)
+none_at f t c e = rw (c, e) none
 
 pub body-none : (b : List ℕ) (k : Body) → body_of b ≡ k → body_code k b ≡ 0 → text_in k b ≡ [] → Counted.Commands 0 ≡ count_of b
 unfolding count_of line_fault body_text
 body-none b k e c t =
     subst (λ (x : Body). Counted.Commands 0 ≡ unless_refused (body_fault x b) (count_text (text_in x b))) (sym e)
-    (none-at (body_fault k b) (text_in k b) c t)
+    (none_at (body_fault k b) (text_in k b) c t)
 
 -- ---- a line or a store
 

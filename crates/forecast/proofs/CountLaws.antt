@@ -39,10 +39,10 @@ letter-one y (Plain a) e =
     cases (λ (z : Tally). z.letter ≡ true) (barred_act a) (λ _. refl)
     (λ _. cases (λ (z : Tally). z.letter ≡ true) (ltb y.here most_counted) (λ _. e) (λ _. e))
 
-letter-kept : (ds : List Command) (y : Tally) → y.letter ≡ true → tally_told (tally_on y ds) ≡ Letter
+letter_kept : (ds : List Command) (y : Tally) → y.letter ≡ true → tally_told (tally_on y ds) ≡ Letter
 unfolding tally_on
-letter-kept [] y e = rw e
-letter-kept (d ∷ ds) y e = letter-kept ds (tallied y d) (letter-one y d e)
+letter_kept [] y e = rw e
+letter_kept (d ∷ ds) y e = letter_kept ds (tallied y d) (letter-one y d e)
 
 -- ---- the exact counts, beside the tally
 
@@ -143,10 +143,10 @@ abbrev Counts : List Command → Type 0
 Counts ds = (depth : ℕ) (y : Tally) (x : ℕ) (s : List ℕ) → structured depth ds ≡ true → length s ≡ depth → y.letter ≡ false → Tied y (x ∷ s)
     → tally_told (tally_on y ds) ≡ exactly ds (x ∷ s)
 
-at-end : Counts []
+at_end : Counts []
 unfolding tally_on counting any_barred structured
-at-end depth y x [] g l e t = ended y x e t
-at-end depth y x (p ∷ s) g l e t = let z : depth ≡ 0 = eqb-true _ _ g in absurd (omega arith)
+at_end depth y x [] g l e t = ended y x e t
+at_end depth y x (p ∷ s) g l e t = let z : depth ≡ 0 = eqb-true _ _ g in absurd (omega arith)
 
 one-letter : (y : Tally) → y.letter ≡ false → (tally_more y).letter ≡ false
 one-letter y e = cases (λ (z : Tally). z.letter ≡ false) (ltb y.here most_counted) (λ _. e) (λ _. e)
@@ -169,7 +169,7 @@ at_close n ds k depth y x [] g l e t = let m : 0 < depth = ltb-true _ _ ((and-eq
 at_close n ds k depth y x (a ∷ s) g l e t = go (eqb n 0) refl
   where
     go : (b : Bool) → eqb n 0 ≡ b → tally_told (tally_on (cond (eqb n 0) (marked y) (tally_closed n y)) ds) ≡ cond (eqb n 0 || any_barred ds) Letter (bounded (head (counting ds ((a + n * (x + 1)) ∷ s))))
-    go true z = rw z (letter-kept ds (marked y) refl)
+    go true z = rw z (letter_kept ds (marked y) refl)
     go false z =
         let w : length s ≡ depth - 1 = omega arith in
         rw z (k (depth - 1) (tally_closed n y) (a + n * (x + 1)) s ((and-eq-true_iff (ltb 0 depth) _).0 g).1 w (close_letter n y e) (close_tied y n x a s (some n (eqb-false n 0 z)) t))
@@ -179,17 +179,17 @@ unfolding tally_on counting any_barred structured
 at_plain a ds k depth y x s g l e t = go (barred_act a) refl
   where
     go : (b : Bool) → barred_act a ≡ b → tally_told (tally_on (cond (barred_act a) (marked y) (tally_more y)) ds) ≡ cond (barred_act a || any_barred ds) Letter (bounded (head (counting ds ((x + 1) ∷ s))))
-    go true z = rw z (letter-kept ds (marked y) refl)
+    go true z = rw z (letter_kept ds (marked y) refl)
     go false z = rw z (k depth (tally_more y) (x + 1) s g l (one-letter y e) (one_tied y x s t))
 
-pass-counts : (ds : List Command) → Counts ds
+pass_counts : (ds : List Command) → Counts ds
 unfolding tally_on any_barred
-pass-counts [] = at-end
-pass-counts (LoopBegin ∷ ds) = at_begin ds (pass-counts ds)
-pass-counts (LoopEnd n ∷ ds) = at_close n ds (pass-counts ds)
-pass-counts (Skip i ∷ ds) = λ depth y x s g l e t. letter-kept ds (marked y) refl
-pass-counts (Jump i ∷ ds) = λ depth y x s g l e t. letter-kept ds (marked y) refl
-pass-counts (Plain a ∷ ds) = at_plain a ds (pass-counts ds)
+pass_counts [] = at_end
+pass_counts (LoopBegin ∷ ds) = at_begin ds (pass_counts ds)
+pass_counts (LoopEnd n ∷ ds) = at_close n ds (pass_counts ds)
+pass_counts (Skip i ∷ ds) = λ depth y x s g l e t. letter_kept ds (marked y) refl
+pass_counts (Jump i ∷ ds) = λ depth y x s g l e t. letter_kept ds (marked y) refl
+pass_counts (Plain a ∷ ds) = at_plain a ds (pass_counts ds)
 
 -- of a text: "a loop costs 1 + n × (body + 1)"
 abbrev begun : Tally
@@ -199,7 +199,7 @@ pub commands-counted : (ds : List Command) → structured 0 ds ≡ true → tall
 commands-counted ds g =
     let c : counting ds (0 ∷ []) ≡ cost (course_of ds) ∷ [] = rw (is_course ds g) at (counts (course_of ds)) in
     let t : Tied begun (0 ∷ []) = record { small = omega arith; same = λ o. (refl, tt); past = λ o. absurd (false≢true o) } in
-    pass-counts ds 0 begun 0 [] g refl refl t ∙ ap (λ (l : List ℕ). cond (any_barred ds) Letter (bounded (head l))) c
+    pass_counts ds 0 begun 0 [] g refl refl t ∙ ap (λ (l : List ℕ). cond (any_barred ds) Letter (bounded (head l))) c
 
 pub text-counted : (t : List ℕ) → Checked t → text_counted t ≡ count_text t
 unfolding text_counted count_text commands_in course_in

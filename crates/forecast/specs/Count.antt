@@ -7,7 +7,7 @@ use Rattle.commands.specs.declared.Command.{Command}
 use Rattle.commands.specs.declared.Command.TheVariants.{LoopBegin, LoopEnd, Skip, Jump, Plain}
 use Rattle.commands.specs.declared.Act.{Act}
 use Rattle.commands.specs.declared.Fault.{Fault}
-use Rattle.commands.specs.declared.Act.TheVariants.{MoveTo, MoveUp, MoveDown, SetPosition, Home, Set, Delay, WaitInput, Recover}
+use Rattle.commands.specs.declared.Act.TheVariants.{MoveTo, MoveUp, MoveDown, SetPosition, Home, Set, Delay, WaitInput}
 use Rattle.lines.specs.declared.Body.{Body}
 use Rattle.lines.specs.declared.Taken.{Taken}
 use Rattle.lines.specs.Texts.{Bare, these, amiss, bare_from}
@@ -30,7 +30,6 @@ barred_act (Home n) = false
 barred_act (Set s n) = false
 barred_act (Delay n) = false
 barred_act (WaitInput n) = true
-barred_act Recover = false
 
 -- "`e`, `S`, `H`, bare `G` or a `G`, `P` or `D` of 0"; a bare `G` reads as `G0`
 abbrev pub barred : Command → Bool

@@ -34,7 +34,6 @@ count_examples =
     -- every kind of command that is counted
     ∷ count_example "A1P2D3z4Z5V6L7f1F1m8h9j4o1400J1b9600M10gA1G2R" (Commands 21)
     ∷ count_example "A0z0Z0f0M0R" (Commands 5)
-    ∷ count_example "raC1aE1000au1n15B2R" (Commands 6)
     -- "a loop costs 1 + n × (body + 1)": an empty body costs its `G` alone
     ∷ count_example "gG1" (Commands 2)
     ∷ count_example "gG30000" (Commands 30001)

@@ -101,7 +101,6 @@ fn is_barred(a: Act) -> bool
         Act::Set(_, _) => false,
         Act::Delay(_) => false,
         Act::WaitInput(_) => true,
-        Act::Recover => false,
     }
 }
 

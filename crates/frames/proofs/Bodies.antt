@@ -139,11 +139,11 @@ whole_is p r u a body l i q e =
     ∙ ap (λ (k : ℕ). record { receiver = placed Place.Outside s; consumed = k; frame = completed p; framing = Framing.Plain })
     (omega (arith, length-append body (cr ∷ [])))
 
-whole-at : (p : Place) (r : Receiver) (u a : ℕ) (body : List ℕ) → Sound r → elsewhere r.place ≡ true
+whole_at : (p : Place) (r : Receiver) (u a : ℕ) (body : List ℕ) → Sound r → elsewhere r.place ≡ true
     → ours (completed p) ≡ true → free cr body ≡ true
     → byte_received (placed Place.Address r) u a ≡ quiet (receiver_at p 0 r.body)
     → Whole (completed p) Framing.Plain (frame_of a body) body (receive_of r u (frame_of a body))
-whole-at p r u a body s l i q e =
+whole_at p r u a body s l i q e =
     rw (whole_is p r u a body l i q e)
     (whole-body p r.body body s.full (completed p) Framing.Plain (frame_of a body))
 
@@ -152,8 +152,8 @@ called_at : (c : Frame) (r : Receiver) (u a : ℕ) (body : List ℕ) → Sound r
     → byte_received (placed Place.Address r) u a ≡ quiet (begun_plain c (placed Place.Address r)) → ours c ≡ true
     → Whole c Framing.Plain (frame_of a body) body (receive_of r u (frame_of a body))
 called_at Frame.Nothing r u a body s l q e o = absurd (true≢false (sym o))
-called_at Frame.Alone r u a body s l q e o = whole-at Place.Alone r u a body s l refl q e
-called_at Frame.Group r u a body s l q e o = whole-at Place.Group r u a body s l refl q e
+called_at Frame.Alone r u a body s l q e o = whole_at Place.Alone r u a body s l refl q e
+called_at Frame.Group r u a body s l q e o = whole_at Place.Group r u a body s l refl q e
 
 pub whole : (r : Receiver) (u a : ℕ) (body : List ℕ) → Sound r → elsewhere r.place ≡ true
     → ours (called_of u a) ≡ true → free cr body ≡ true

@@ -34,11 +34,11 @@ stays p n body u b i h =
     step-inside (receiver_at p n body) u b i e.2 e.1 e.0
 
 -- one that stays is stored where there is room
-pub stays-kept : (p : Place) (n : ℕ) (body : List ℕ) (u b : ℕ) → ours (completed p) ≡ true → leaves_body b ≡ false
+pub stays_kept : (p : Place) (n : ℕ) (body : List ℕ) (u b : ℕ) → ours (completed p) ≡ true → leaves_body b ≡ false
     → n < most_kept
     → quiet (receiver_at p (n + 1) (set body n b)) ≡ byte_received (receiver_at p n body) u b
 unfolding stored
-stays-kept p n body u b i h k = sym (stays p n body u b i h ∙ rw (lt-ltb n most_kept k))
+stays_kept p n body u b i h k = sym (stays p n body u b i h ∙ rw (lt-ltb n most_kept k))
 
 pub stays-full : (p : Place) (n : ℕ) (body : List ℕ) (u b : ℕ) → ours (completed p) ≡ true → leaves_body b ≡ false
     → most_kept ≤ n

@@ -3,7 +3,7 @@
 use Prim.Native.Nat.{ℕ, ◌<◌}
 use native.Mathlib.Omega.{arith}
 use mathlib.Core.Path.{◌≡◌, refl, ap, sym, ◌∙◌}
-use mathlib.Core.Bool.{true, false, cond, and-true, and_false, true≢false}
+use mathlib.Core.Bool.{true, false, cond, and-true, and-false, true≢false}
 use mathlib.Core.Logic.{inl, inr}
 use mathlib.Core.List.{List, ◌∷◌}
 use lib.ListN.{length-set}
@@ -127,7 +127,7 @@ pub step-oem-sum : (r : Receiver) (u : ℕ) (w : Frame) (q s c : ℕ)
     → byte_received (placed (Place.OemSum w q s) r) u c
     ≡ cond (eqb c s) (finished w (Framing.Oem q) (placed Place.Outside r)) (quiet (placed Place.Outside r))
 unfolding byte_received
-step-oem-sum r u w q s c = simp and_false
+step-oem-sum r u w q s c = simp and-false
 
 -- WHAT A BYTE COMPLETES
 abbrev Completing : Place → ℕ → Stepped → Type 0

@@ -16,9 +16,9 @@ use Rattle.digits.specs.Decimal.{digits_in, digits_of, ascii, decimal}
 use Rattle.digits.proofs.Writing.{decimal-last, decimal-more, length_some}
 use Rattle.commands.specs.declared.Command.{Command}
 use Rattle.commands.specs.declared.Fault.{Fault}
-use Rattle.commands.specs.Table.{one, long, one_of, table, find, command_of}
+use Rattle.commands.specs.Table.{one_of, table, find, command_of}
 use Rattle.commands.specs.Writing.{two_digits_lem, spelled}
-use Rattle.commands.proofs.WritingLaws.{name-written, spelling-some}
+use Rattle.commands.proofs.WritingLaws.{letter-written, spelling-some}
 use Rattle.lines.specs.declared.Slot.TheVariants.{NoSlot, Into}
 use Rattle.lines.specs.Texts.{structured}
 use Rattle.lines.specs.Bodies.{body_of, line_code_lem}
@@ -29,7 +29,7 @@ use Rattle.lines.proofs.FaultLaws.{over-long}
 use Rattle.host.specs.declared.LineWritten.{LineWritten}
 use Rattle.host.specs.declared.LineWritten.TheVariants.{Bytes, Refused, NoRoom}
 use Rattle.host.specs.Host.{host_list, code_of, place_of, fault_of, fitted, answer_of, code_in, line_name, left_by_lem, LineIs}
-use Rattle.host.specs.Claims.{empty_list, k8_list, slot_list, encoder_list, host_listed, numbered, numbered_long, two_digited, Written, LineWrittenIs, LineRefusedIs, LineShortIs}
+use Rattle.host.specs.Claims.{empty_list, k8_list, slot_list, host_listed, numbered, two_digited, Written, LineWrittenIs, LineRefusedIs, LineShortIs}
 use Rattle.host.proofs.LineLaws.{code-few, code-long}
 
 -- ---- the three ways
@@ -96,7 +96,7 @@ module _ (l : HostList) (count : ℕ) (buffer : List ℕ) where
         no_code = z;
         fits = h;
         bytes = front;
-        reads-back = ap list_of front ∙ list_back l (list-taken l count z);
+        reads_back = ap list_of front ∙ list_back l (list-taken l count z);
         past-line = rw zero-add at (drop-put buffer 0 t (omega arith));
         as_long = length-put buffer 0 t (omega arith);
       }
@@ -119,7 +119,7 @@ module _ (l : HostList) (count : ℕ) (buffer : List ℕ) where
   refused {f} p = answered p (λ a x. a ≡ Refused f → LineRefusedIs l count f buffer x)
       (λ z h e. let y : ◌≡◌ {A = ℕ} 0 1 = cc in absurd (omega arith))
       (λ z h e. let y : ◌≡◌ {A = ℕ} 0 1 = cc in absurd (omega arith))
-      (λ z e. let same : fault_of l count ≡ f = cc in rw (← same) (record { its_code = refl; its_place = refl; a-fault = fault-code l count z; unchanged = refl }))
+      (λ z e. let same : fault_of l count ≡ f = cc in rw (← same) (record { its_code = refl; its_place = refl; a_fault = fault-code l count z; unchanged = refl }))
       refl
 
 -- ---- the code
@@ -140,7 +140,7 @@ commands-bytes : (cs : List Command) → length cs ≤ length (commands_text cs)
 unfolding commands_text
 commands-bytes [] = omega arith
 commands-bytes (c ∷ cs) =
-    omega (arith, commands-bytes cs, spelling-some (spelled c) (name-written c), length-append (spelled c) (commands_text cs))
+    omega (arith, commands-bytes cs, spelling-some (spelled c) (letter-written c), length-append (spelled c) (commands_text cs))
 
 pub too_many : (l : HostList) → most_bytes < length l.listed → list_code_lem l ≡ 2
 unfolding written_of
@@ -199,23 +199,15 @@ one-letter P (x ∷ xs) l h e = go (eqb l x) refl e (one-letter P xs l h.1)
     go true f g rest = rw (eqb-true l x f) h.0
     go false f g rest = rest g
 
-begins-alone : (n : ℕ) → spelled (command_of (one 103) n) ≡ bytes "g"
+begins-alone : (n : ℕ) → spelled (command_of 103 n) ≡ bytes "g"
 unfolding spelled command_of table find
 begins-alone n = refl
 
-recovers-alone : (n : ℕ) → spelled (command_of (one 114) n) ≡ bytes "r"
-unfolding spelled command_of table find
-recovers-alone n = refl
-
-with_number : (l n : ℕ) → one_of numbered l ≡ true → spelled (command_of (one l) n) ≡ l ∷ decimal n
+with_number : (l n : ℕ) → one_of numbered l ≡ true → spelled (command_of l n) ≡ l ∷ decimal n
 unfolding spelled command_of table find
 with_number l n e =
-    one-letter (λ (m : ℕ). spelled (command_of (one m) n) ≡ m ∷ decimal n) numbered l
-    (refl, (refl, (refl, (refl, (refl, (refl, (refl, (refl, (refl, (refl, (refl, (refl, (refl, (refl, (refl, (refl, (refl, (refl, (refl, (refl, tt)))))))))))))))))))) e
-
-with_number-long : (l n : ℕ) → one_of numbered_long l ≡ true → spelled (command_of (long l) n) ≡ 97 ∷ l ∷ decimal n
-unfolding spelled command_of table find
-with_number-long l n e = one-letter (λ (m : ℕ). spelled (command_of (long m) n) ≡ 97 ∷ m ∷ decimal n) numbered_long l (refl, (refl, (refl, tt))) e
+    one-letter (λ (m : ℕ). spelled (command_of m n) ≡ m ∷ decimal n) numbered l
+    (refl, (refl, (refl, (refl, (refl, (refl, (refl, (refl, (refl, (refl, (refl, (refl, (refl, (refl, (refl, (refl, (refl, (refl, tt)))))))))))))))))) e
 
 two_so : (n : ℕ) → n < 100 → two_digits_lem n ≡ (48 + n / 10) ∷ (48 + n % 10) ∷ []
 unfolding two_digits_lem
@@ -230,11 +222,11 @@ two_so n h = go (dec_lt n 10)
         let g : 10 ≤ n = omega arith in
         rw (le-ltb n 10 g, decimal-more n g, decimal-last (n / 10) (omega arith))
 
-with_two_digits : (l n : ℕ) → one_of two_digited l ≡ true → n < 100 → spelled (command_of (one l) n) ≡ l ∷ (48 + n / 10) ∷ (48 + n % 10) ∷ []
+with_two_digits : (l n : ℕ) → one_of two_digited l ≡ true → n < 100 → spelled (command_of l n) ≡ l ∷ (48 + n / 10) ∷ (48 + n % 10) ∷ []
 unfolding spelled command_of table find
 with_two_digits l n e h =
     let two : (m : ℕ) → m ∷ two_digits_lem n ≡ m ∷ (48 + n / 10) ∷ (48 + n % 10) ∷ [] = λ m. ap (λ (t : List ℕ). m ∷ t) (two_so n h) in
-    one-letter (λ (m : ℕ). spelled (command_of (one m) n) ≡ m ∷ (48 + n / 10) ∷ (48 + n % 10) ∷ []) two_digited l (two 72, (two 83, tt)) e
+    one-letter (λ (m : ℕ). spelled (command_of m n) ≡ m ∷ (48 + n / 10) ∷ (48 + n % 10) ∷ []) two_digited l (two 72, (two 83, tt)) e
 
 -- ---- lists and their bodies
 
@@ -245,10 +237,6 @@ k8_written = refl
 pub slot-written : written_of slot_list ≡ bytes "s15H02R"
 unfolding written_of commands_text spelled two_digits_lem decimal ascii digits_of digits_in
 slot-written = refl
-
-pub encoder-written : written_of encoder_list ≡ bytes "raE12800au5R"
-unfolding written_of commands_text spelled two_digits_lem decimal ascii digits_of digits_in
-encoder-written = refl
 
 -- ---- no leading zero
 
@@ -274,9 +262,7 @@ how-written = record {
   more = command-first;
   end = run-last;
   loop-begin = begins-alone;
-  recover = recovers-alone;
   number = with_number;
-  number-long = with_number-long;
   two_digits = with_two_digits;
   no_leading_zero = no_leading_zero;
 }

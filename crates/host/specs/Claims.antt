@@ -6,9 +6,8 @@ use Rattle.digits.specs.Decimal.{decimal}
 use Rattle.commands.specs.declared.Command.{Command}
 use Rattle.commands.specs.declared.Fault.{Fault}
 use Rattle.commands.specs.declared.Command.TheVariants.{LoopBegin, LoopEnd, Skip, Jump, Plain}
-use Rattle.commands.specs.declared.Act.TheVariants.{MoveTo, Set, WaitInput, Recover}
-use Rattle.commands.specs.declared.Setting.TheVariants.{Ratio, Tries}
-use Rattle.commands.specs.Table.{one, long, one_of, command_of}
+use Rattle.commands.specs.declared.Act.TheVariants.{MoveTo, WaitInput}
+use Rattle.commands.specs.Table.{one_of, command_of}
 use Rattle.commands.specs.Writing.{spelled}
 use Rattle.lines.specs.declared.Slot.{Slot}
 use Rattle.lines.specs.declared.Slot.TheVariants.{NoSlot, Into}
@@ -27,25 +26,19 @@ host_listed s cs run = record { slot = s; listed = cs; run = run }
 
 -- the letters with a number, "`G` always with its number"; those "as two digits"
 abbrev pub numbered : List ℕ
-numbered = bytes "APDzZVLfFmhjoJbBnMGe"
-
--- 02, E11: those with a number behind an `a`
-abbrev pub numbered_long : List ℕ
-numbered_long = bytes "CEu"
+numbered = bytes "APDzZVLfFmhjoJbMGe"
 
 abbrev pub two_digited : List ℕ
 two_digited = bytes "HS"
 
--- how a list is written: a slot, its commands one after another, and `R`; each command by its name
+-- how a list is written: a slot, its commands one after another, and `R`; each command by its letter
 pub record Written : Type 0 where
   pub slot : (n : ℕ) (cs : List Command) (run : Bool) → written_of (host_listed (Into n) cs run) ≡ byte "s" ∷ (decimal n ++ written_of (host_listed NoSlot cs run))
   pub more : (c : Command) (cs : List Command) (run : Bool) → written_of (host_listed NoSlot (c ∷ cs) run) ≡ spelled c ++ written_of (host_listed NoSlot cs run)
   pub end : (run : Bool) → written_of (host_listed NoSlot [] run) ≡ cond run (bytes "R") []
-  pub loop-begin : (n : ℕ) → spelled (command_of (one (byte "g")) n) ≡ bytes "g"
-  pub recover : (n : ℕ) → spelled (command_of (one (byte "r")) n) ≡ bytes "r"
-  pub number : (l n : ℕ) → one_of numbered l ≡ true → spelled (command_of (one l) n) ≡ l ∷ decimal n
-  pub number-long : (l n : ℕ) → one_of numbered_long l ≡ true → spelled (command_of (long l) n) ≡ byte "a" ∷ l ∷ decimal n
-  pub two_digits : (l n : ℕ) → one_of two_digited l ≡ true → n < 100 → spelled (command_of (one l) n) ≡ l ∷ (byte "0" + n / 10) ∷ (byte "0" + n % 10) ∷ []
+  pub loop-begin : (n : ℕ) → spelled (command_of (byte "g") n) ≡ bytes "g"
+  pub number : (l n : ℕ) → one_of numbered l ≡ true → spelled (command_of l n) ≡ l ∷ decimal n
+  pub two_digits : (l n : ℕ) → one_of two_digited l ≡ true → n < 100 → spelled (command_of l n) ≡ l ∷ (byte "0" + n / 10) ∷ (byte "0" + n % 10) ∷ []
   -- "without leading zeros": only 0 begins with the digit 0
   pub no_leading_zero : (n : ℕ) → 1 ≤ n → get_or (decimal n) 0 0 ≡ byte "0" → ⊥
 
@@ -57,16 +50,12 @@ k8_list = record { slot = NoSlot; listed = LoopBegin ∷ Plain (MoveTo 0) ∷ Sk
 abbrev pub slot_list : HostList
 slot_list = record { slot = Into 15; listed = Plain (WaitInput 2) ∷ []; run = true }
 
--- `r`, an encoder ratio and a number of tries
-abbrev pub encoder_list : HostList
-encoder_list = record { slot = NoSlot; listed = Plain Recover ∷ Plain (Set Ratio 12800) ∷ Plain (Set Tries 5) ∷ []; run = true }
-
 -- so many bytes were written: the list is taken, they fit, they read as the list, and bytes past them are as they were
 pub record LineWrittenIs (l : HostList) (count n : ℕ) (buffer after : List ℕ) : Type 0 where
   pub no_code : code_of l count ≡ 0
   pub fits : n ≤ length buffer
   pub bytes : take n after ≡ written_of l
-  pub reads-back : list_of (take n after) ≡ list l
+  pub reads_back : list_of (take n after) ≡ list l
   pub past-line : drop n after ≡ drop n buffer
   pub as_long : length after ≡ length buffer
 
@@ -74,7 +63,7 @@ pub record LineWrittenIs (l : HostList) (count n : ℕ) (buffer after : List ℕ
 pub record LineRefusedIs (l : HostList) (count : ℕ) (f : Fault) (buffer after : List ℕ) : Type 0 where
   pub its_code : f.code ≡ code_of l count
   pub its_place : f.place ≡ place_of l count
-  pub a-fault : one_of (2 ∷ 3 ∷ []) f.code ≡ true
+  pub a_fault : one_of (2 ∷ 3 ∷ []) f.code ≡ true
   pub unchanged : after ≡ buffer
 
 -- "then buffer too short": nothing else is wrong, and "buffer unchanged"
@@ -118,5 +107,3 @@ pub record HostClaims : Type 0 where
   -- the list of K8's second line, and one with a slot
   pub k8_written : written_of k8_list ≡ bytes "gA0S03e0G0R"
   pub slot-written : written_of slot_list ≡ bytes "s15H02R"
-  -- 02, E11
-  pub encoder-written : written_of encoder_list ≡ bytes "raE12800au5R"

@@ -1,18 +1,15 @@
--- What the public calls answer and leave. 01, "Image of the programs" and "What comes back"; 02, E7. Assumes nothing.
-use Rattle.std.specs.Prelude.{ℕ, ◌≡◌, List, Bool, true, false, cond, length, ltb, leb}
+-- What the public calls answer and leave. 01, "Image of the programs" and "What comes back". Assumes nothing.
+use Rattle.std.specs.Prelude.{ℕ, ◌≡◌, List, Bool, cond, length, ltb, leb}
 use Prim.Native.String.{String}
 use Rattle.digits.specs.Operand.{operand_most}
 use Rattle.parts.specs.Parts.{most_bytes}
-use Rattle.contents.specs.Contents.{slots, body_bytes}
-use Rattle.big.specs.Big.{is_big, big_empty}
-use Rattle.small.specs.Small.{is_small, small_empty}
-use Rattle.image.specs.Image.{right_length, image_by, may_store, with_text}
+use Rattle.image.specs.Image.{right_length, slots, body_bytes, slots_by, with_text, empty_image}
 use Rattle.image.specs.declared.Checked.{Checked}
 use Rattle.image.specs.declared.Stored.{Stored}
 
 -- "image not 4,160 bytes, then bad image", with operands of so many digits at most
 unfoldable pub checked_by : ℕ → List ℕ → Checked
-checked_by most image = cond (right_length image) (cond (image_by most image) Checked.Good Checked.Bad) Checked.WrongLength
+checked_by most image = cond (right_length image) (cond (slots_by most image slots) Checked.Good Checked.Bad) Checked.WrongLength
 
 abbrev pub checked_of : List ℕ → Checked
 checked_of image = checked_by operand_most image
@@ -27,43 +24,33 @@ checked_number Checked.Good = 0
 checked_number Checked.WrongLength = 1
 checked_number Checked.Bad = 2
 
--- and its name: "image not 4,160 bytes, then bad image", where the length refusal "now means neither length"
+-- and its name: "image not 4,160 bytes, then bad image"
 abbrev pub checked_name : Checked → String
 checked_name Checked.Good = "good"
-checked_name Checked.WrongLength = "image neither 4,160 nor 1,024 bytes"
+checked_name Checked.WrongLength = "image not 4,160 bytes"
 checked_name Checked.Bad = "bad image"
 
--- what a store answers: the length refusal, a slot not "0 to 15", a text too long for a body; then 02, E7, "tested last": no room, or done
+-- what a store answers: "image not 4,160 bytes", a slot not "0 to 15", a text too long for its body, or done
 unfoldable pub stored_of : List ℕ → ℕ → List ℕ → Stored
 stored_of image slot text =
     cond
     (right_length image)
-    (cond (ltb slot slots) (cond (leb (length text) body_bytes) (cond (may_store image slot (length text)) Stored.Done Stored.Full) Stored.TooLong) Stored.NoSlot)
+    (cond (ltb slot slots) (cond (leb (length text) body_bytes) Stored.Done Stored.TooLong) Stored.NoSlot)
     Stored.WrongLength
 
--- what each answer leaves: a store that is done the image with the text, a refusal all as it was
+-- what each answer leaves: "`s` rewrites one entry and one body", a refusal nothing
 abbrev pub store_leaves : Stored → List ℕ → ℕ → List ℕ → List ℕ
 store_leaves Stored.Done image slot text = with_text image slot text
 store_leaves Stored.WrongLength image slot text = image
 store_leaves Stored.NoSlot image slot text = image
 store_leaves Stored.TooLong image slot text = image
-store_leaves Stored.Full image slot text = image
-
--- 02, E7: whether there was no room
-abbrev pub is_full : Stored → Bool
-is_full Stored.Done = false
-is_full Stored.WrongLength = false
-is_full Stored.NoSlot = false
-is_full Stored.TooLong = false
-is_full Stored.Full = true
 
 -- and its name
 abbrev pub stored_name : Stored → String
 stored_name Stored.Done = "stored"
-stored_name Stored.WrongLength = "image neither 4,160 nor 1,024 bytes"
+stored_name Stored.WrongLength = "image not 4,160 bytes"
 stored_name Stored.NoSlot = "slot not 0 to 15"
 stored_name Stored.TooLong = "text over 256 bytes"
-stored_name Stored.Full = "no room for the text"
 
 unfoldable pub after_store : List ℕ → ℕ → List ℕ → List ℕ
 after_store image slot text = store_leaves (stored_of image slot text) image slot text
@@ -73,9 +60,9 @@ pub record StoredIs (image : List ℕ) (slot : ℕ) (text : List ℕ) (answer : 
   pub answers : answer ≡ stored_of image slot text
   pub leaves : after ≡ after_store image slot text
 
--- "`?9` writes the good image with all slots empty", of the image's form; an image of neither length stays as it is
+-- "`?9` writes the good image with all slots empty"; an image of the wrong length stays as it is
 unfoldable pub after_clear : List ℕ → List ℕ
-after_clear image = cond (is_big image) big_empty (cond (is_small image) small_empty image)
+after_clear image = cond (right_length image) empty_image image
 
 -- the answer and the image after `?9`: whether the length was right
 pub record ClearedIs (image : List ℕ) (answer : Bool) (after : List ℕ) : Type 0 where

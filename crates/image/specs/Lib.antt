@@ -1,4 +1,3 @@
 pub mod Image
 pub mod Calls
-pub mod Putting
 pub mod Claims

@@ -4,7 +4,6 @@ use mathlib.Core.Path.{◌≡◌, refl}
 use mathlib.Core.List.{List}
 use mathlib.Core.Bool.{Bool, true, false}
 use native.Mathlib.Omega.{arith}
-use lib.IntN.{ℤ}
 use lib.Dec.{ltb}
 use lib.ListN.{length, take}
 use lib.Seq.{take-length}
@@ -51,19 +50,19 @@ module _ {P : List ℕ → Core → Type 0} (k : Kept P) where
   feeds u bytes image buffer h =
       let g = received_by u bytes in
       cases Q (ltb (length buffer) packet_bytes) (λ b. h)
-      (λ b. cases Q (right_length image) (λ i. k.obeys h (frame-does g.frame (body_by u bytes) image u.core)) (λ i. h))
+      (λ b. cases Q (right_length image) (λ i. k.obeys h (frame-does g.frame (body_by u bytes) u.core)) (λ i. h))
     where
       Q : Feeding → Type 0
       Q r = HoldsOf P r.unit
 
-  turns : (u : Drive) (sample ms steps : ℕ) (count : ℤ) (image : List ℕ) → HoldsOf P u → HoldsOf P (turn_of u sample ms steps count image).unit
+  turns : (u : Drive) (sample ms steps : ℕ) (image : List ℕ) → HoldsOf P u → HoldsOf P (turn_of u sample ms steps image).unit
   unfolding turn_of turn_core
-  turns u sample ms steps count image h =
+  turns u sample ms steps image h =
       cases Q (right_length image)
       (λ i. cases Q (ltb most_sample sample) (λ s. h)
       (λ s. cases Q (ltb u.core.motor.last.number steps) (λ r. h)
-      (λ r. k.turns count h (ltb-false most_sample sample s) (ltb-false u.core.motor.last.number steps r)
-      (step-does sample ms steps count (take u.core.flow.length u.text) image u.core))))
+      (λ r. k.turns h (ltb-false most_sample sample s) (ltb-false u.core.motor.last.number steps r)
+      (step-does sample ms steps (take u.core.flow.length u.text) image u.core))))
       (λ i. h)
     where
       Q : Turning → Type 0

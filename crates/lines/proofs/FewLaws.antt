@@ -3,7 +3,7 @@
 use Prim.Native.Nat.{ℕ, ◌≤◌, ◌<◌}
 use mathlib.Core.Path.{◌≡◌, refl, sym, ap, ◌∙◌}
 use mathlib.Core.List.{List, [], ◌++◌, append-nil, append_assoc}
-use mathlib.Core.Bool.{Bool, true, false, ◌&&◌, and-true, and_false}
+use mathlib.Core.Bool.{Bool, true, false, ◌&&◌, and-true, and-false}
 use native.Mathlib.Omega.{arith}
 use native.Mathlib.Decide.{dec_lt}
 use lib.ListN.{length, drop, length-drop}
@@ -14,7 +14,7 @@ use Rattle.digits.specs.ReadBack.{spelling}
 use Rattle.digits.proofs.Reading.{run-within}
 use Rattle.digits.proofs.FewLaws.{few-when, few_no_digit, few_digits_lem}
 use Rattle.commands.specs.declared.Command.{Command}
-use Rattle.commands.proofs.WritingLaws.{name_read_lem, spelling_no_digit, spelling-few, spelling-most}
+use Rattle.commands.proofs.WritingLaws.{letter-first, spelling_no_digit, spelling-few, spelling-most}
 use Rattle.lines.specs.declared.Body.{Body}
 use Rattle.lines.specs.declared.Slot.{Slot}
 use Rattle.parts.specs.Parts.{most_bytes}
@@ -37,7 +37,7 @@ Few s = (digit_run s ≡ []) × (few_digits operand_most s ≡ true)
 commands-few : {cs : List Command} {t : List ℕ} (rest : List ℕ) → SpellsCommands cs t → Few rest → Few (t ++ rest)
 commands-few rest none h = h
 commands-few rest (more {c = c} {b = b} {bs = bs} w ws) h =
-    let k = name_read_lem c b w in
+    let k = letter-first c b w in
     let f = commands-few rest ws h in
     rw (append_assoc b bs rest) (spelling_no_digit b k (bs ++ rest), spelling-few b k (spelling-most c b w) (bs ++ rest) f.0 f.1)
 
@@ -78,7 +78,7 @@ good-now t = go (few_digits operand_most t) refl (text_good t) refl
     go : (f : Bool) → few_digits operand_most t ≡ f → (g : Bool) → text_good t ≡ g → text_good t ≡ older_good t && few_digits operand_most t
     go true q g e = rw (q, and-true (older_good t)) (sym (same_check operand_most most_bytes t (omega arith) q))
     go false q true e = let h = checked-few t (text-checked t e) in let z : ◌≡◌ {A = ℕ} 0 1 = cc in absurd (omega arith)
-    go false q false e = rw (q, and_false (older_good t)) e
+    go false q false e = rw (q, and-false (older_good t)) e
 
 -- a text has no more digits than bytes
 all-few : (most : ℕ) (t : List ℕ) → length t ≤ most → few_digits most t ≡ true

@@ -11,5 +11,4 @@ pub mod SpellLaws
 pub mod FaultLaws
 pub mod BeforeLaws
 pub mod FewLaws
-pub mod ByteLaws
 pub mod ExampleLaws

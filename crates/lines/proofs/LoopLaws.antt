@@ -156,9 +156,9 @@ lawful {t} {at} {st} h p = go (read_at t at) refl (rest_at h p)
     go End e q = ended q.left (sym (reading_law t at ∙ rw e) ∙ q.reads) q.holds
 
 -- "at most four open"
-pub at-most-four : {t : List ℕ} {at : ℕ} {st : List ℕ} → Checked t → Enclosed t at st → length st ≤ most_open
-at-most-four h start = omega arith
-at-most-four {t} h (next {at = a} {starts = s} c n p e) = go c (rw e at (lawful h p)) (at-most-four h p)
+pub at_most-four : {t : List ℕ} {at : ℕ} {st : List ℕ} → Checked t → Enclosed t at st → length st ≤ most_open
+at_most-four h start = omega arith
+at_most-four {t} h (next {at = a} {starts = s} c n p e) = go c (rw e at (lawful h p)) (at_most-four h p)
   where
     go : (c : Command) → Lawful t (length s) (At c n) → length s ≤ most_open → length (open_after c n s) ≤ most_open
     go LoopBegin q l = omega arith
@@ -186,12 +186,12 @@ backs (next (Plain a) n p e) = backs p
 
 -- ---- the relation is the function `enclosing`
 
-scan-at : {t : List ℕ} {at : ℕ} {st : List ℕ} → Enclosed t at st → (to : ℕ) → at ≤ to → (k : ℕ) × (to ≤ at + k) × (enclosing t to ≡ scan_to k t to at st)
+scan_at : {t : List ℕ} {at : ℕ} {st : List ℕ} → Enclosed t at st → (to : ℕ) → at ≤ to → (k : ℕ) × (to ≤ at + k) × (enclosing t to ≡ scan_to k t to at st)
 unfolding enclosing scan_to
-scan-at start to l = (to, omega arith, refl)
-scan-at {t} (next {at = a} {starts = s} c n p e) to l =
+scan_at start to l = (to, omega arith, refl)
+scan_at {t} (next {at = a} {starts = s} c n p e) to l =
     let lt = read_step t a e in
-    let q = scan-at p to (omega arith) in
+    let q = scan_at p to (omega arith) in
     go q.0 q.1 q.2 lt.0
   where
     go : (k : ℕ) → to ≤ a + k → enclosing t to ≡ scan_to k t to a s → a < n → (j : ℕ) × (to ≤ n + j) × (enclosing t to ≡ scan_to j t to n (open_after c n s))
@@ -200,7 +200,7 @@ scan-at {t} (next {at = a} {starts = s} c n p e) to l =
 
 pub enclosed_by : {t : List ℕ} {at : ℕ} {st : List ℕ} → Enclosed t at st → st ≡ enclosing t at
 unfolding scan_to
-enclosed_by {t} {at} {st} p = let q = scan-at p at (omega arith) in sym (q.2 ∙ go q.0)
+enclosed_by {t} {at} {st} p = let q = scan_at p at (omega arith) in sym (q.2 ∙ go q.0)
   where
     go : (k : ℕ) → scan_to k t at at st ≡ st
     go zero = refl

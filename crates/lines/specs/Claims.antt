@@ -74,15 +74,11 @@ pub record PlacedIn (n : ℕ) (f : Fault) : Type 0 where
   pub first : 1 ≤ f.place
   pub last : f.place ≤ n + 1
 
--- no byte is 0
-abbrev pub NoZero : List ℕ → Type 0
-NoZero t = (i : ℕ) → i < length t → get_or t i 0 ≡ 0 → ⊥
-
 pub record LineClaims : Type 0 where
   -- every list, written as a body, gets the code of the list, by its length, its ranges and its structure
   pub list_code : (l : HostList) → line_code_lem (written_of l) ≡ list_code_lem l
   -- a list that is taken reads back, slot and `R` included
-  pub reads-back : (l : HostList) → list_code_lem l ≡ 0 → list_of (written_of l) ≡ list l
+  pub reads_back : (l : HostList) → list_code_lem l ≡ 0 → list_of (written_of l) ≡ list l
   -- what the host writes of a list in range is a spelling of it
   pub written-spells : (l : HostList) → (slot_in_range l.slot && all_in_range l.listed) ≡ true → Spells l (written_of l)
   -- every spelling, leading zeros and a bare `G` or `H` too, is taken and reads as its list: no line is refused that 01 takes
@@ -96,8 +92,6 @@ pub record LineClaims : Type 0 where
   -- "also in stored text": that, and nothing else, is new; the older reading has no limit, since a greater one reads the same
   pub good-now : (t : List ℕ) → text_good t ≡ older_good t && few_digits operand_most t
   pub older-most : (most : ℕ) (t : List ℕ) → most_bytes ≤ most → text_good_by most t ≡ older_good t
-  -- 02, E8: the non-zero bytes of what passes are all its bytes
-  pub no_zero : (t : List ℕ) → text_good t ≡ true → NoZero t
   -- "(2)", "(3)": there is no other code
   pub codes : (b : List ℕ) → one_of (0 ∷ 2 ∷ 3 ∷ []) (line_code_lem b) ≡ true
   -- "the first fault from the left": a text read from a place is its command there, then the text read from behind it
@@ -127,7 +121,7 @@ pub record LineClaims : Type 0 where
   pub lawful : {t : List ℕ} {at : ℕ} {starts : List ℕ} → Checked t → Enclosed t at starts
       → Lawful t (length starts) (read_at t at)
   -- "at most four open"
-  pub at-most-four : {t : List ℕ} {at : ℕ} {starts : List ℕ} → Checked t → Enclosed t at starts → length starts ≤ 4
+  pub at_most-four : {t : List ℕ} {at : ℕ} {starts : List ℕ} → Checked t → Enclosed t at starts → length starts ≤ 4
   -- the loops open at a place are those that enclose it, whatever way was run
   pub enclosed_by : {t : List ℕ} {at : ℕ} {starts : List ℕ} → Enclosed t at starts → starts ≡ enclosing t at
   -- K5 to K8, K11 and the edges around them

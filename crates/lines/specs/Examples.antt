@@ -1,5 +1,5 @@
 -- Bodies, the codes that an idle unit gives them, 0 where it takes them, and the places of their faults, 0 where there is none:
--- K5 to K8 and K11 of 01, and edges around them; 02, E11.
+-- K5 to K8 and K11 of 01, and edges around them.
 -- Assumes nothing.
 use Rattle.std.specs.Prelude.{ℕ, zero, suc, List, [], ◌∷◌, ◌++◌, Bool, true, false, ◌&&◌, not, replicate, eqb}
 use Prim.Native.String as Text
@@ -82,31 +82,6 @@ examples =
     ∷ example (bytes "S00000000002A0R") 3 1
     ∷ example (bytes "A00000000005x") 3 1
     ∷ example (bytes "xA00000000005") 2 1
-    -- 02, E11: "`aC` 1 to 65000, `aE` 1000 to 1000000, `au` 1 to 1000000, `r`", "`n` goes to 15"
-    ∷ example (bytes "aC100R") 0 0
-    ∷ example (bytes "aC0R") 3 1
-    ∷ example (bytes "aC65000R") 0 0
-    ∷ example (bytes "aC65001R") 3 1
-    ∷ example (bytes "aE12800R") 0 0
-    ∷ example (bytes "aE999R") 3 1
-    ∷ example (bytes "aE1000001R") 3 1
-    ∷ example (bytes "au5R") 0 0
-    ∷ example (bytes "au0R") 3 1
-    ∷ example (bytes "aCR") 3 1
-    ∷ example (bytes "aC0000000005R") 0 0
-    ∷ example (bytes "aC00000000005R") 3 1
-    ∷ example (bytes "rR") 0 0
-    ∷ example (bytes "r5R") 2 2
-    ∷ example (bytes "n15R") 0 0
-    ∷ example (bytes "n16R") 3 1
-    -- "`a` with another letter: 2 at the `a`", or with none
-    ∷ example (bytes "aR") 2 1
-    ∷ example (bytes "P5a") 2 3
-    ∷ example (bytes "ab5R") 2 1
-    ∷ example (bytes "a5R") 2 1
-    ∷ example (bytes "P5aX1R") 2 3
-    ∷ example (bytes "P5aC0R") 3 3
-    ∷ example (bytes "s3raC7aE1000au9n8R") 0 0
     ∷ []
 
 -- which fault is told, and its place
@@ -132,8 +107,6 @@ leftmosts =
     ∷ example (bytes "gggggGGGGR") 2 1
     ∷ example (bytes "ggA1S02G1R") 2 1
     ∷ example (bytes "A1gL0R") 3 4
-    ∷ example (bytes "gaX1aC0R") 2 2
-    ∷ example (bytes "aC5gaC0R") 3 5
     ∷ []
 
 -- ---- stored texts

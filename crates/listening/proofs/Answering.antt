@@ -4,7 +4,7 @@ use Prim.Native.Nat.{ℕ, suc, ◌+◌, ◌-◌, ◌≤◌, ◌<◌}
 use native.Mathlib.Omega.{arith}
 use native.Mathlib.Nat.{add-zero}
 use mathlib.Core.Path.{◌≡◌, refl, sym, ◌∙◌, ap, subst}
-use mathlib.Core.Bool.{true, false, and_false, and-eq-true_iff, true≢false}
+use mathlib.Core.Bool.{true, false, and-false, and-eq-true_iff, true≢false}
 use mathlib.Mathlib.Data.Bool.Basic.{or-eq-false-eq-eq-false-and-eq-false as neither}
 use mathlib.Core.List.{List, [], ◌∷◌, ◌++◌}
 use lib.Dec.{eqb, leb, ltb}
@@ -25,7 +25,7 @@ use Rattle.listening.specs.declared.Ear.{Ear}
 use Rattle.listening.specs.declared.Hearing.{Hearing}
 use Rattle.listening.specs.declared.Listener.{Listener}
 use Rattle.listening.specs.Table.{greatest_count, with_answer, noted}
-use Rattle.listening.specs.Listen.{may_follow, stays_at, not_sum, hear_of, listen_of}
+use Rattle.listening.specs.Listen.{may_follow, standing, not_sum, hear_of, listen_of}
 use Rattle.listening.specs.Claims.{of_unit, AnswerHeard, AnswersHeard}
 use Rattle.listening.proofs.Growing.{noted-own, noted-others}
 
@@ -65,13 +65,13 @@ module _ (status unit : ℕ) (t : List UnitRecord) where
   at spot = record { ear = ear spot; table = t }
 
   -- a byte that finishes nothing
-  on : (spot next : Spot) (b : ℕ) (bs : List ℕ) → hear_of (ear spot) b ≡ stays_at next unit → listen_of (at spot) (b ∷ bs) ≡ listen_of (at next) bs
+  on : (spot next : Spot) (b : ℕ) (bs : List ℕ) → hear_of (ear spot) b ≡ standing next unit → listen_of (at spot) (b ∷ bs) ≡ listen_of (at next) bs
   unfolding listen_of
   on spot next b bs e = ap (λ (h : Hearing). listen_of (record { ear = h.ear; table = noted t h.finish }) bs) e
 
   -- the data, in a framing whose places are F
   data_heard : (F : ℕ → ℕ → Spot)
-      → ((n s b : ℕ) → eqb b slash ≡ false → may_follow n b ≡ true → hear_of (ear (F n s)) b ≡ stays_at (F (n + 1) (xor s b)) unit)
+      → ((n s b : ℕ) → eqb b slash ≡ false → may_follow n b ≡ true → hear_of (ear (F n s)) b ≡ standing (F (n + 1) (xor s b)) unit)
       → (xs : List ℕ) (n s : ℕ) → all_printable xs ≡ true → is_in slash xs ≡ false → n + length xs ≤ most_data → (ys : List ℕ)
       → listen_of (at (F n s)) (xs ++ ys) ≡ listen_of (at (F (n + length xs) (sum_from s xs))) ys
   unfolding sum_from
@@ -88,11 +88,11 @@ module _ (status unit : ℕ) (t : List UnitRecord) where
       ∙ data_heard F step xs (n + 1) (xor s x) later none next ys
       ∙ ap (λ (k : ℕ). listen_of (at (F k (sum_from (xor s x) xs))) ys) sums
 
-  plain_step : (n s b : ℕ) → eqb b slash ≡ false → may_follow n b ≡ true → hear_of (ear (Spot.AnswerData status n)) b ≡ stays_at (Spot.AnswerData status (n + 1)) unit
+  plain_step : (n s b : ℕ) → eqb b slash ≡ false → may_follow n b ≡ true → hear_of (ear (Spot.AnswerData status n)) b ≡ standing (Spot.AnswerData status (n + 1)) unit
   unfolding hear_of
   plain_step n s b a m = let p = is_printable n b m in simp (a, low-not b stx (omega arith) p, low-not b etx (omega arith) p, m)
 
-  oem-step : (n s b : ℕ) → eqb b slash ≡ false → may_follow n b ≡ true → hear_of (ear (Spot.OemData status n s)) b ≡ stays_at (Spot.OemData status (n + 1) (xor s b)) unit
+  oem-step : (n s b : ℕ) → eqb b slash ≡ false → may_follow n b ≡ true → hear_of (ear (Spot.OemData status n s)) b ≡ standing (Spot.OemData status (n + 1) (xor s b)) unit
   unfolding hear_of
   oem-step n s b a m = let p = is_printable n b m in simp (a, low-not b stx (omega arith) p, low-not b etx (omega arith) p, m)
 
@@ -136,7 +136,7 @@ module _ (status unit : ℕ) (t : List UnitRecord) where
           oem-head (xs ++ (etx ∷ oem_sum status xs ∷ []))
           ∙ data_heard (λ n s. Spot.OemData status n s) oem-step xs 0 (xor (xor stx host_address) status) p i l (etx ∷ oem_sum status xs ∷ [])
           ∙ on (Spot.OemData status (0 + length xs) s) (Spot.OemSum (Finish.AnswerOf unit status) (xor s etx)) etx (oem_sum status xs ∷ []) refl
-          ∙ simp (and_false, eq_eqb (oem_sum status xs) (xor s etx) (sym (sum_made status xs)))
+          ∙ simp (and-false, eq_eqb (oem_sum status xs) (xor s etx) (sym (sum_made status xs)))
 
 -- THE RECORD
 heard-answer : (u status : ℕ) (t : List UnitRecord) → is_unit u ≡ true → length t ≡ 16 → AnswerHeard u status t (noted t (Finish.AnswerOf u status))
@@ -160,8 +160,8 @@ answers-heard l status xs n s g i =
     let u = l.ear.unit in
     let whole = plain status u l.table l.ear.spot n s xs g i [] in
     record {
-      not-at_03 = ap (λ (m : Listener). m.table) (through status u l.table l.ear.spot n s xs g i []);
-      at-cr = λ is long. subst (λ (m : Listener). AnswerHeard u status l.table m.table) (sym whole) (heard-answer u status l.table is long);
+      not_at_03 = ap (λ (m : Listener). m.table) (through status u l.table l.ear.spot n s xs g i []);
+      at_cr = λ is long. subst (λ (m : Listener). AnswerHeard u status l.table m.table) (sym whole) (heard-answer u status l.table is long);
       none = λ e. ap (λ (m : Listener). m.table) whole ∙ ap (λ (v : ℕ). noted l.table (Finish.AnswerOf v status)) e;
       ready = ap (λ (m : Listener). m.ear) whole;
       line-feed = plain status u l.table l.ear.spot n s xs g i (lf ∷ []) ∙ sym whole;

@@ -30,7 +30,7 @@ use Rattle.listening.specs.declared.Spot.{Spot}
 use Rattle.listening.specs.declared.Hearing.{Hearing}
 use Rattle.listening.specs.declared.Listener.{Listener}
 use Rattle.listening.specs.Table.{blank_record, greatest_count, once_more, with_frame, noted}
-use Rattle.listening.specs.Listen.{alone_of, after_address, may_follow, stays_at, other_heard, not_sum, hear_of, heard_byte, fresh_listener, listen_of}
+use Rattle.listening.specs.Listen.{alone_of, after_address, may_follow, standing, other_heard, not_sum, hear_of, heard_byte, fresh_listener, listen_of}
 use Rattle.listening.specs.Claims.{of_unit, table_after, up_to, is_alone, frames_alone}
 use Rattle.listening.proofs.Growing.{noted-long, noted-own, noted-others}
 
@@ -49,7 +49,7 @@ data Beside (u : ℕ) : Spot → Place → Type 0 where
   in-other : (f : Finish) → to_unit u f ≡ false → Beside u (Spot.Body f) Place.Outside
   status : Beside u Spot.AnswerStatus Place.Outside
   in-data : (s n : ℕ) → Beside u (Spot.AnswerData s n) Place.Outside
-  at-end : (s : ℕ) → Beside u (Spot.AnswerEnd s) Place.Outside
+  at_end : (s : ℕ) → Beside u (Spot.AnswerEnd s) Place.Outside
   oem_address : Beside u Spot.OemAddress Place.OemAddress
   oem_sequence : (f : Finish) (w : Frame) (s : ℕ) → to_unit u f ≡ is_alone w → Beside u (Spot.OemSequence f s) (Place.OemSequence w s)
   oem-body : (f : Finish) (w : Frame) (q s : ℕ) → to_unit u f ≡ is_alone w → Beside u (Spot.OemBody f s) (Place.OemBody w q s)
@@ -102,7 +102,7 @@ stored_for-place w b r = cases (λ (t : Receiver). t.place ≡ r.place) (ours w)
 -- THE STEP
 module _ (u : ℕ) (is : is_unit u ≡ true) (unit b : ℕ) (n : ℕ) (body : List ℕ) where
   -- nothing is finished on either side
-  quietly : {spot : Spot} {r : Receiver} → Beside u spot r.place → Together u (stays_at spot unit) (quiet r)
+  quietly : {spot : Spot} {r : Receiver} → Beside u spot r.place → Together u (standing spot unit) (quiet r)
   quietly s = record { same = refl; on = s }
 
   begun : (w : Frame) (f : Finish) (r : Receiver) → to_unit u f ≡ is_alone w → Beside u (Spot.Body f) (begun_plain w r).place
@@ -110,9 +110,9 @@ module _ (u : ℕ) (is : is_unit u ≡ true) (unit b : ℕ) (n : ℕ) (body : Li
   begun Frame.Alone f r e = in-alone f e
   begun Frame.Group f r e = in_group f e
 
-  in-address : Together u (stays_at (after_address b) unit) (other_byte Place.Address u b (receiver_at Place.Address n body))
+  in-address : Together u (standing (after_address b) unit) (other_byte Place.Address u b (receiver_at Place.Address n body))
   in-address =
-      cases (Together u (stays_at (after_address b) unit)) (eqb b cr)
+      cases (Together u (standing (after_address b) unit)) (eqb b cr)
       (λ e. quietly (cases (λ (s : Spot). Beside u s Place.Outside) (eqb b host_address) (λ h. status)
       (λ h. in-other (alone_of b) (called u b is ∙ ap is_alone (low u b (let q = eqb-true b cr e in omega (arith, q)))))))
       (λ e. quietly (cases (λ (s : Spot). Beside u s (begun_plain (called_of u b) (receiver_at Place.Address n body)).place) (eqb b host_address)
@@ -126,7 +126,7 @@ module _ (u : ℕ) (is : is_unit u ≡ true) (unit b : ℕ) (n : ℕ) (body : Li
   closed Frame.Alone f g m e = record { same = e; on = outside }
   closed Frame.Group f g m e = record { same = e; on = outside }
 
-  in-stored : (f : Finish) (p : Place) → Beside u (Spot.Body f) p → Together u (stays_at (Spot.Body f) unit) (quiet (stored b (receiver_at p n body)))
+  in-stored : (f : Finish) (p : Place) → Beside u (Spot.Body f) p → Together u (standing (Spot.Body f) unit) (quiet (stored b (receiver_at p n body)))
   in-stored f p s = quietly (subst (Beside u (Spot.Body f)) (sym (stored-place b (receiver_at p n body))) s)
 
   heard_as : (f : Finish) (w : Frame) → to_unit u f ≡ is_alone w → to_unit u (cond (good b) f Finish.Nothing) ≡ is_alone (heard w b)
@@ -137,7 +137,7 @@ module _ (u : ℕ) (is : is_unit u ≡ true) (unit b : ℕ) (n : ℕ) (body : Li
   unfolding heard
   heard-none w e = cases (λ (y : Frame). false ≡ is_alone y) (good b) (λ _. e) (λ _. refl)
 
-  kept : (spot : Spot) (w : Frame) (q s : ℕ) → Beside u spot (Place.OemBody w q s) → Together u (stays_at spot unit) (quiet (stored_for w b (receiver_at (Place.OemBody w q s) n body)))
+  kept : (spot : Spot) (w : Frame) (q s : ℕ) → Beside u spot (Place.OemBody w q s) → Together u (standing spot unit) (quiet (stored_for w b (receiver_at (Place.OemBody w q s) n body)))
   kept spot w q s x = quietly (subst (Beside u spot) (sym (stored_for-place w b (receiver_at (Place.OemBody w q s) n body))) x)
 
   other : (spot : Spot) (p : Place) → Beside u spot p → Together u (other_heard spot unit b) (other_byte p u b (receiver_at p n body))
@@ -149,30 +149,30 @@ module _ (u : ℕ) (is : is_unit u ≡ true) (unit b : ℕ) (n : ℕ) (body : Li
       cases (λ (h : Hearing). Together u h (quiet (receiver_at Place.Outside n body))) (eqb b cr) (λ _. record { same = e; on = outside }) (λ _. quietly (in-other f e))
   other _ _ status = quietly (cases (λ (s : Spot). Beside u s Place.Outside) (good_status b) (λ _. in-data b 0) (λ _. outside))
   other _ _ (in-data s m) =
-      quietly (cases (λ (x : Spot). Beside u x Place.Outside) (eqb b etx) (λ _. at-end s)
+      quietly (cases (λ (x : Spot). Beside u x Place.Outside) (eqb b etx) (λ _. at_end s)
       (λ _. cases (λ (x : Spot). Beside u x Place.Outside) (may_follow m b) (λ _. in-data s (m + 1)) (λ _. outside)))
-  other _ _ (at-end s) =
+  other _ _ (at_end s) =
       cases (λ (h : Hearing). Together u h (quiet (receiver_at Place.Outside n body))) (eqb b cr) (λ _. record { same = refl; on = outside }) (λ _. quietly outside)
   other _ _ oem_address =
-      both (λ (s : Spot) (r : Receiver). Together u (stays_at s unit) (quiet r)) (eqb b etx) (λ _. quietly outside)
-      (λ _. cases (λ (s : Spot). Together u (stays_at s unit) (quiet (receiver_at (Place.OemSequence (called_of u b) (xor stx b)) n body))) (eqb b host_address)
+      both (λ (s : Spot) (r : Receiver). Together u (standing s unit) (quiet r)) (eqb b etx) (λ _. quietly outside)
+      (λ _. cases (λ (s : Spot). Together u (standing s unit) (quiet (receiver_at (Place.OemSequence (called_of u b) (xor stx b)) n body))) (eqb b host_address)
       (λ h. quietly (oem-status (called_of u b) (xor stx b) (sym (ap is_alone (low u b (let q = eqb-true b host_address h in omega (arith, q)))))))
       (λ h. quietly (oem_sequence (alone_of b) (called_of u b) (xor stx b) (called u b is))))
   other _ _ (oem_sequence f w s e) =
-      both (λ (x : Spot) (r : Receiver). Together u (stays_at x unit) (quiet r)) (eqb b etx) (λ _. quietly outside)
+      both (λ (x : Spot) (r : Receiver). Together u (standing x unit) (quiet r)) (eqb b etx) (λ _. quietly outside)
       (λ _. quietly (oem-body (cond (good b) f Finish.Nothing) (heard w b) b (xor s b) (heard_as f w e)))
   other _ _ (oem-status w s e) =
-      both (λ (x : Spot) (r : Receiver). Together u (stays_at x unit) (quiet r)) (eqb b etx) (λ _. quietly outside)
-      (λ _. cases (λ (x : Spot). Together u (stays_at x unit) (quiet (begun_oem (heard w b) b (xor s b) (receiver_at (Place.OemSequence w s) n body)))) (good_status b)
+      both (λ (x : Spot) (r : Receiver). Together u (standing x unit) (quiet r)) (eqb b etx) (λ _. quietly outside)
+      (λ _. cases (λ (x : Spot). Together u (standing x unit) (quiet (begun_oem (heard w b) b (xor s b) (receiver_at (Place.OemSequence w s) n body)))) (good_status b)
       (λ _. quietly (oem_data (heard w b) b (xor s b) b 0 (heard-none w e)))
       (λ _. quietly (oem-body Finish.Nothing (heard w b) b (xor s b) (heard-none w e))))
   other _ _ (oem-body f w q s e) =
-      both (λ (x : Spot) (r : Receiver). Together u (stays_at x unit) (quiet r)) (eqb b etx)
+      both (λ (x : Spot) (r : Receiver). Together u (standing x unit) (quiet r)) (eqb b etx)
       (λ _. quietly (oem-sum f w q (xor s b) e)) (λ _. kept (Spot.OemBody f (xor s b)) w q (xor s b) (oem-body f w q (xor s b) e))
   other _ _ (oem_data w q s t m e) =
-      both (λ (x : Spot) (r : Receiver). Together u (stays_at x unit) (quiet r)) (eqb b etx)
+      both (λ (x : Spot) (r : Receiver). Together u (standing x unit) (quiet r)) (eqb b etx)
       (λ _. quietly (oem-sum (Finish.AnswerOf unit t) w q (xor s b) e))
-      (λ _. cases (λ (x : Spot). Together u (stays_at x unit) (quiet (stored_for w b (receiver_at (Place.OemBody w q (xor s b)) n body)))) (may_follow m b)
+      (λ _. cases (λ (x : Spot). Together u (standing x unit) (quiet (stored_for w b (receiver_at (Place.OemBody w q (xor s b)) n body)))) (may_follow m b)
       (λ _. kept (Spot.OemData t (m + 1) (xor s b)) w q (xor s b) (oem_data w q (xor s b) t (m + 1) e))
       (λ _. kept (Spot.OemBody Finish.Nothing (xor s b)) w q (xor s b) (oem-body Finish.Nothing w q (xor s b) e)))
   other _ _ (oem-sum f w q s e) =
@@ -186,7 +186,7 @@ module _ (u : ℕ) (is : is_unit u ≡ true) (unit b : ℕ) (n : ℕ) (body : Li
   sums _ _ (in-other f e) = refl
   sums _ _ status = refl
   sums _ _ (in-data s m) = refl
-  sums _ _ (at-end s) = refl
+  sums _ _ (at_end s) = refl
   sums _ _ oem_address = refl
   sums _ _ (oem_sequence f w s e) = refl
   sums _ _ (oem-body f w q s e) = refl
@@ -249,25 +249,25 @@ more : (t : Bool) (m k : ℕ) → m ≡ up_to k → cond t (once_more m) m ≡ u
 more true m k e = ap once_more e ∙ counted-on k
 more false m k e = e ∙ ap up_to (sym (add-zero k))
 
-both-count : (u : ℕ) → is_unit u ≡ true → (xs : List ℕ) (l : Listener) (r : Receiver) (k : ℕ) → Beside u l.ear.spot r.place → length l.table ≡ 16
+both_count : (u : ℕ) → is_unit u ≡ true → (xs : List ℕ) (l : Listener) (r : Receiver) (k : ℕ) → Beside u l.ear.spot r.place → length l.table ≡ 16
     → (of_unit u l.table).frames ≡ up_to k → (of_unit u (listen_of l xs).table).frames ≡ up_to (k + frames_alone u r xs)
 unfolding listen_of frames_alone
-both-count u is [] l r k s long e = e ∙ ap up_to (sym (add-zero k))
-both-count u is (x ∷ xs) l r k s long e =
+both_count u is [] l r k s long e = e ∙ ap up_to (sym (add-zero k))
+both_count u is (x ∷ xs) l r k s long e =
     let h = hear_of l.ear x in
     let next = byte_received r u x in
     let here = step u is l.ear.unit x r.length r.body l.ear.spot r.place s in
     let c : ℕ = cond (is_alone next.frame) 1 0 in
     let now : (of_unit u (noted l.table h.finish)).frames ≡ up_to (k + c)
     = noted-frames u is l.table long h.finish ∙ rw here.same (more (is_alone next.frame) (of_unit u l.table).frames k e) in
-    both-count u is xs (heard_byte l x) next.receiver (k + c) here.on (noted-long l.table h.finish ∙ long) now
+    both_count u is xs (heard_byte l x) next.receiver (k + c) here.on (noted-long l.table h.finish ∙ long) now
     ∙ ap up_to (add_assoc k c (frames_alone u next.receiver xs))
 
 pub frames-counted : (u : ℕ) → is_unit u ≡ true → (body xs : List ℕ) → (of_unit u (table_after xs)).frames ≡ up_to (frames_alone u (receiver_of fresh_progress body) xs)
 frames-counted u is body xs =
     let most = (unit_is u is).1 in
     let sum = frames_alone u (receiver_of fresh_progress body) xs in
-    both-count u is xs fresh_listener (receiver_of fresh_progress body) 0 outside refl (ap (λ (r : UnitRecord). r.frames) (get_or-replicate 16 (u - 1) blank_record blank_record (omega (arith, most))))
+    both_count u is xs fresh_listener (receiver_of fresh_progress body) 0 outside refl (ap (λ (r : UnitRecord). r.frames) (get_or-replicate 16 (u - 1) blank_record blank_record (omega (arith, most))))
     ∙ ap up_to (zero-add sum)
 
 -- one byte behind others: the receiver completes a frame for its unit alone where the listener finishes one to it

@@ -34,11 +34,11 @@ module _ {M : Type 1} {𝓤 : Ura M} (𝓛 : Logic 𝓤) (R : RattleType) (one :
   abbrev τs : Ty
   τs = ty_array (lone R.mir) n
 
-  abbrev at-list : GName → List R.Denot → MutBor (List R.Denot)
-  at-list γ ys = record { ref_ptr = (b, 0); ghost_name = γ; now = ys }
+  abbrev at_list : GName → List R.Denot → MutBor (List R.Denot)
+  at_list γ ys = record { ref_ptr = (b, 0); ghost_name = γ; now = ys }
 
   abbrev pub Loaned : Lifetime → Lft → List R.Denot → GName → SProp 𝓤
-  Loaned ℓ κ ys γ = sep 𝓤 (sem 𝓛 ((MutSlice ℓ κ R).own_val (at-list γ ys) (slice_val (b, 0) n ∷ []))) (A.lent κ (Held R n b 0 γ))
+  Loaned ℓ κ ys γ = sep 𝓤 (sem 𝓛 ((MutSlice ℓ κ R).own_val (at_list γ ys) (slice_val (b, 0) n ∷ []))) (A.lent κ (Held R n b 0 γ))
 
   pub lends_array : (ℓ : Lifetime) (κ : Lft) (ys : List R.Denot) (v : Val) → length ys ≡ n → Room R (length ys)
       → ent 𝓤 (sep 𝓤 (H.at full_share τs b 0 v) (sem 𝓛 ((Array R n).own_val ys (v ∷ [])))) (H.⇛ (ex 𝓤 (Loaned ℓ κ ys)))
@@ -49,8 +49,8 @@ module _ {M : Type 1} {𝓤 : Ura M} (𝓛 : Logic 𝓤) (R : RattleType) (one :
       fpack ! (List Val) (λ vs. fsep (cell_at full_share (τs ∷ []) vs b 0) ((Array R n).own_val ys vs)) (v ∷ []) $
       use1 𝓛 (‵ ((arr_parts (shares R) n).part full_share ys b 0)) (Array-apart 𝓛 R full_share one n ys b 0) $ fsplit ! $ drop ! $
       use1 𝓛 (‵ (cells (mem R) ys b 0)) (whole_in 𝓛 R ys b 0) $
-      use1 𝓛 (later (some (λ (γ : GName). ‵ ((MutSlice ℓ κ R).own_val (at-list γ ys) (slice_val (b, 0) (length ys) ∷ [])) ⊛ ‵ (flent κ (Held R (length ys) b 0 γ))))) (lends_slice 𝓛 R ℓ κ ys b 0 room) $ await ! tt $ pick ! (λ γ. split ! $
-      rewrite ! 0 (λ (m : ℕ). ‵ ((MutSlice ℓ κ R).own_val (at-list γ ys) (slice_val (b, 0) m ∷ []))) e refl $
+      use1 𝓛 (later (some (λ (γ : GName). ‵ ((MutSlice ℓ κ R).own_val (at_list γ ys) (slice_val (b, 0) (length ys) ∷ [])) ⊛ ‵ (flent κ (Held R (length ys) b 0 γ))))) (lends_slice 𝓛 R ℓ κ ys b 0 room) $ await ! tt $ pick ! (λ γ. split ! $
+      rewrite ! 0 (λ (m : ℕ). ‵ ((MutSlice ℓ κ R).own_val (at_list γ ys) (slice_val (b, 0) m ∷ []))) e refl $
       rewrite ! 1 (λ (m : ℕ). ‵ (flent κ (Held R m b 0 γ))) e refl $
       at_once ! $ show ! (Loaned ℓ κ ys) γ $ done !)
 

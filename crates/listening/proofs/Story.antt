@@ -30,7 +30,7 @@ use Rattle.listening.specs.declared.Spot.{Spot}
 use Rattle.listening.specs.declared.Hearing.{Hearing}
 use Rattle.listening.specs.declared.Listener.{Listener}
 use Rattle.listening.specs.Table.{blank_record, with_frame, with_answer, changed_at, noted}
-use Rattle.listening.specs.Listen.{alone_of, may_follow, stays_at, other_heard, not_sum, unit_after, hear_of, heard_byte, fresh_listener, listen_of}
+use Rattle.listening.specs.Listen.{alone_of, may_follow, standing, other_heard, not_sum, unit_after, hear_of, heard_byte, fresh_listener, listen_of}
 use Rattle.listening.specs.Claims.{of_unit, table_after, frames_alone, to03, EndsInAnswer, LastFrameTo, SameAnswers, AnswerEnds}
 use Rattle.listening.proofs.Places.{room}
 use Rattle.listening.proofs.Cuts.{cut_law}
@@ -58,9 +58,9 @@ data Story (xs : List ℕ) (unit : ℕ) : Spot → Type 0 where
   outside : Story xs unit Spot.Outside
   address : (front : List ℕ) → xs ≡ front ++ (slash ∷ []) → Story xs unit Spot.Address
   in_body : (f : Finish) → Named f → Story xs unit (Spot.Body f)
-  at-status : (front : List ℕ) → xs ≡ front ++ (slash ∷ host_address ∷ []) → Story xs unit Spot.AnswerStatus
+  at_status : (front : List ℕ) → xs ≡ front ++ (slash ∷ host_address ∷ []) → Story xs unit Spot.AnswerStatus
   in-data : (front ys : List ℕ) (s n : ℕ) → xs ≡ front ++ (slash ∷ host_address ∷ s ∷ ys) → Sound s n ys → Story xs unit (Spot.AnswerData s n)
-  at-end : (front ys : List ℕ) (s : ℕ) → xs ≡ front ++ to03 s ys → good_status s ≡ true → good_data ys ≡ true → Story xs unit (Spot.AnswerEnd s)
+  at_end : (front ys : List ℕ) (s : ℕ) → xs ≡ front ++ to03 s ys → good_status s ≡ true → good_data ys ≡ true → Story xs unit (Spot.AnswerEnd s)
   oem_address : (front : List ℕ) → xs ≡ front ++ (stx ∷ []) → Story xs unit Spot.OemAddress
   oem_sequence : (f : Finish) (t : ℕ) → Named f → Story xs unit (Spot.OemSequence f t)
   oem-body : (f : Finish) (t : ℕ) → Named f → Story xs unit (Spot.OemBody f t)
@@ -131,28 +131,28 @@ module _ (xs : List ℕ) (unit b : ℕ) where
   abbrev on : List ℕ
   on = xs ++ (b ∷ [])
 
-  quietly : (spot : Spot) → Story on unit spot → Next on unit (stays_at spot unit)
+  quietly : (spot : Spot) → Story on unit spot → Next on unit (standing spot unit)
   quietly spot s = record { story = s; told = nothing; after = refl }
 
   other : (spot : Spot) → Story xs unit spot → Next on unit (other_heard spot unit b)
   other _ outside = quietly Spot.Outside outside
   other _ (address front e) =
       quietly _ (cases (Story on unit) (eqb b host_address)
-      (λ h. at-status front (grow front (slash ∷ []) xs b e ∙ ap (λ (c : ℕ). front ++ (slash ∷ c ∷ [])) (eqb-true b host_address h)))
+      (λ h. at_status front (grow front (slash ∷ []) xs b e ∙ ap (λ (c : ℕ). front ++ (slash ∷ c ∷ [])) (eqb-true b host_address h)))
       (λ h. in_body (alone_of b) (named b)))
   other _ (in_body f k) =
       cases (Next on unit) (eqb b cr) (λ h. record { story = outside; told = told_named on unit f k; after = refl }) (λ h. quietly (Spot.Body f) (in_body f k))
-  other _ (at-status front e) =
+  other _ (at_status front e) =
       quietly _ (cases (Story on unit) (good_status b)
       (λ h. in-data front [] b 0 (grow front (slash ∷ host_address ∷ []) xs b e) (record { fine = h; clean = all_printable-nil; long = refl; within = omega arith }))
       (λ h. outside))
   other _ (in-data front ys s n e k) =
       quietly _ (cases (Story on unit) (eqb b etx)
-      (λ h. at-end front ys s (grow front (slash ∷ host_address ∷ s ∷ ys) xs b e ∙ ap (λ (c : ℕ). front ++ (slash ∷ host_address ∷ s ∷ (ys ++ (c ∷ [])))) (eqb-true b etx h)) k.fine (whole_data s n ys k))
+      (λ h. at_end front ys s (grow front (slash ∷ host_address ∷ s ∷ ys) xs b e ∙ ap (λ (c : ℕ). front ++ (slash ∷ host_address ∷ s ∷ (ys ++ (c ∷ [])))) (eqb-true b etx h)) k.fine (whole_data s n ys k))
       (λ h. cases (Story on unit) (may_follow n b)
       (λ m. in-data front (ys ++ (b ∷ [])) s (n + 1) (grow front (slash ∷ host_address ∷ s ∷ ys) xs b e) (sound-on s n ys b k m))
       (λ m. outside)))
-  other _ (at-end front ys s e good clean) =
+  other _ (at_end front ys s e good clean) =
       cases (Next on unit) (eqb b cr)
       (λ h. record {
         story = outside;

@@ -69,8 +69,8 @@ pub record AnswerHeard (u status : ℕ) (t after : List UnitRecord) : Type 0 whe
 
 -- a packet behind what l has heard: it "belongs to the unit of the last such frame; with none before it, it is dropped"
 pub record AnswersHeard (l : Listener) (status : ℕ) (xs : List ℕ) : Type 0 where
-  pub not-at_03 : (listen_of l (to03 status xs)).table ≡ l.table
-  pub at-cr : is_unit l.ear.unit ≡ true → length l.table ≡ 16
+  pub not_at_03 : (listen_of l (to03 status xs)).table ≡ l.table
+  pub at_cr : is_unit l.ear.unit ≡ true → length l.table ≡ 16
       → AnswerHeard l.ear.unit status l.table (listen_of l (to_cr status xs)).table
   pub none : l.ear.unit ≡ 0 → (listen_of l (to_cr status xs)).table ≡ l.table
   -- the listener is outside a frame, with that unit; the LF changes nothing; and the OEM packet does the same

@@ -56,8 +56,8 @@ after_oem_data unit status n s b =
     (cond (may_follow n b) (Spot.OemData status (n + 1) s) (Spot.OemBody Finish.Nothing s))
 
 -- nothing is finished
-abbrev pub stays_at : Spot → ℕ → Hearing
-stays_at spot unit = record { ear = record { spot = spot; unit = unit }; finish = Finish.Nothing }
+abbrev pub standing : Spot → ℕ → Hearing
+standing spot unit = record { ear = record { spot = spot; unit = unit }; finish = Finish.Nothing }
 
 -- "An answer belongs to the unit of the last such frame"
 abbrev pub unit_after : Finish → ℕ → ℕ
@@ -68,21 +68,21 @@ unit_after (Finish.AnswerOf u status) unit = unit
 -- the byte that ends a frame or an answer finishes it; another one does not
 abbrev pub ended_by : ℕ → ℕ → Finish → Spot → ℕ → Hearing
 ended_by end b f other unit =
-    cond (eqb b end) (record { ear = record { spot = Spot.Outside; unit = unit_after f unit }; finish = f }) (stays_at other unit)
+    cond (eqb b end) (record { ear = record { spot = Spot.Outside; unit = unit_after f unit }; finish = f }) (standing other unit)
 
 -- a byte that begins no frame: "a plain answer counts at its CR", a plain frame too; an OEM one at its checksum, if it is right
 abbrev pub other_heard : Spot → ℕ → ℕ → Hearing
-other_heard Spot.Outside unit b = stays_at Spot.Outside unit
-other_heard Spot.Address unit b = stays_at (after_address b) unit
+other_heard Spot.Outside unit b = standing Spot.Outside unit
+other_heard Spot.Address unit b = standing (after_address b) unit
 other_heard (Spot.Body f) unit b = ended_by cr b f (Spot.Body f) unit
-other_heard Spot.AnswerStatus unit b = stays_at (after_status b) unit
-other_heard (Spot.AnswerData status n) unit b = stays_at (after_data status n b) unit
+other_heard Spot.AnswerStatus unit b = standing (after_status b) unit
+other_heard (Spot.AnswerData status n) unit b = standing (after_data status n b) unit
 other_heard (Spot.AnswerEnd status) unit b = ended_by cr b (Finish.AnswerOf unit status) Spot.Outside unit
-other_heard Spot.OemAddress unit b = stays_at (after_oem_address b) unit
-other_heard (Spot.OemSequence f s) unit b = stays_at (after_sequence f (xor s b) b) unit
-other_heard (Spot.OemBody f s) unit b = stays_at (after_oem_body f (xor s b) b) unit
-other_heard (Spot.OemStatus s) unit b = stays_at (after_oem_status (xor s b) b) unit
-other_heard (Spot.OemData status n s) unit b = stays_at (after_oem_data unit status n (xor s b) b) unit
+other_heard Spot.OemAddress unit b = standing (after_oem_address b) unit
+other_heard (Spot.OemSequence f s) unit b = standing (after_sequence f (xor s b) b) unit
+other_heard (Spot.OemBody f s) unit b = standing (after_oem_body f (xor s b) b) unit
+other_heard (Spot.OemStatus s) unit b = standing (after_oem_status (xor s b) b) unit
+other_heard (Spot.OemData status n s) unit b = standing (after_oem_data unit status n (xor s b) b) unit
 other_heard (Spot.OemSum f s) unit b = ended_by s b f Spot.Outside unit
 
 -- "02 or `/` begins a new frame everywhere but in the checksum place"
@@ -106,8 +106,8 @@ opens_at x spot b = eqb b x && not_sum spot
 -- one byte
 unfoldable pub hear_of : Ear → ℕ → Hearing
 hear_of ear b =
-    cond (opens_at slash ear.spot b) (stays_at Spot.Address ear.unit)
-    (cond (opens_at stx ear.spot b) (stays_at Spot.OemAddress ear.unit)
+    cond (opens_at slash ear.spot b) (standing Spot.Address ear.unit)
+    (cond (opens_at stx ear.spot b) (standing Spot.OemAddress ear.unit)
     (other_heard ear.spot ear.unit b))
 
 -- a listener that has heard nothing: 0 is the unit of no frame

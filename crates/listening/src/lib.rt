@@ -8,7 +8,7 @@ ghost use Rattle.listening.specs.Lines.{hex_digit, status_text, unit_line, line_
 ghost use Rattle.listening.specs.Pieces.{record_place, with_finish, added, added_each};
 ghost use Rattle.listening.specs.Listen.{alone_of, after_address, after_status, may_follow, after_data};
 ghost use Rattle.listening.specs.Listen.{after_oem_address, after_sequence, after_oem_body, after_oem_status, after_oem_data};
-ghost use Rattle.listening.specs.Listen.{stays_at, unit_after, ended_by, other_heard, not_sum, opens_at, hear_of, fresh_listener, listen_of};
+ghost use Rattle.listening.specs.Listen.{standing, unit_after, ended_by, other_heard, not_sum, opens_at, hear_of, fresh_listener, listen_of};
 ghost use Rattle.listening.specs.Claims.{ListeningClaims};
 
 use digits::Written;
@@ -255,7 +255,7 @@ fn take(spot: Spot, unit: u8, b: u8) -> Hearing
 
 // The listener there, and nothing finished.
 fn stand(spot: Spot, unit: u8) -> Hearing
-    ensures { result ≡ stays_at spot unit }
+    ensures { result ≡ standing spot unit }
 {
     Hearing {
         ear: Ear { spot, unit },

@@ -71,7 +71,7 @@ module _ (body : List ℕ) (c : Core) where
   quiet = tells Tell.Nothing nothing-told
 
   immediate-does : (i : Immediate) → body_of body ≡ Body.Immediate i → Deed (immediate_obeyed i c)
-  immediate-does Terminate e = cases (λ (d : Core). Deed (silent d)) c.running (λ r. stops e r) (λ r. resumes)
+  immediate-does Terminate e = cases (λ (d : Core). Deed (silent d)) c.running (λ r. stops e r) (λ r. quiet)
   immediate-does Status e = quiet
   immediate-does CurrentText e = tells Tell.Text text-told
   immediate-does Position e = tells _ position-told
@@ -138,7 +138,7 @@ module _ (body : List ℕ) (c : Core) where
   kind_does (Body.Immediate i) e k = immediate-does i e
   kind_does Body.Run e k =
       cases Deed c.running (λ r. cases Deed (waits_input c.motor.wait) (λ w. resumes) (λ w. refusal))
-      (λ r. cases (λ (d : Core). Deed (silent d)) c.loaded (λ q. again r) (λ q. resumes))
+      (λ r. cases (λ (d : Core). Deed (silent d)) c.loaded (λ q. again r) (λ q. quiet))
   kind_does Body.Again e k = cases Deed c.running (λ r. refusal) (λ r. again r)
   kind_does Body.Line e k = cases Deed c.running (λ r. speed-or-busy e r) (λ r. line_does e r (line_of body) refl k)
 

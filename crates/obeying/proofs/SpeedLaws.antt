@@ -20,8 +20,8 @@ use Rattle.commands.specs.declared.Act.TheVariants.{Set}
 use Rattle.commands.specs.declared.Setting.TheVariants.{TopSpeed}
 use Rattle.commands.specs.declared.Range.{Range}
 use Rattle.commands.specs.declared.Read.TheVariants.{At, Bad}
-use Rattle.commands.specs.Table.{one, table, find, asks_of, command_of, within}
-use Rattle.commands.specs.Reading.{name_at, behind_name, out_of_range, bad_operand, required, read_by, read_at}
+use Rattle.commands.specs.Table.{table, find, asks_of, command_of, within}
+use Rattle.commands.specs.Reading.{out_of_range, bad_operand, required, read_by, read_at}
 use Rattle.commands.specs.Writing.{in_range}
 use Rattle.commands.proofs.ReadingLaws.{read_append, read_end}
 use Rattle.lines.specs.declared.Taken.{Taken}
@@ -83,11 +83,11 @@ speed-body b h =
 
 module _ {b t : List ℕ} (s : SpeedBody b t) where
   -- the one command of the text is read as in the body: the `R` behind it is no digit
-  read_there : read_at t 0 ≡ required (one 86) (Range.From 1 16777216) (operand_up_to operand_most b 1) 1 1
-  unfolding digit_run asks_of find table read_by name_at behind_name
+  read_there : read_at t 0 ≡ required 86 (Range.From 1 16777216) (operand_up_to operand_most b 1) 1
+  unfolding digit_run asks_of find table read_by
   read_there =
       let l : 0 < length b = omega (arith, ap length s.whole, length-append t (82 ∷ []), s.some) in
-      sym (read_append t (82 ∷ []) 0 s.some refl refl) ∙ ap (λ (x : List ℕ). read_at x 0) (sym s.whole) ∙ rw (lt-ltb 0 (length b) l, s.first)
+      sym (read_append t (82 ∷ []) 0 s.some refl) ∙ ap (λ (x : List ℕ). read_at x 0) (sym s.whole) ∙ rw (lt-ltb 0 (length b) l, s.first)
 
   -- no store
   first-there : get_or t 0 0 ≡ 86
@@ -101,7 +101,7 @@ module _ {b t : List ℕ} (s : SpeedBody b t) where
   unfolding taken_of
   judged-code j e run = rw (first-there, e)
 
-  bad-code : (run : Bool) → required (one 86) (Range.From 1 16777216) (operand_up_to operand_most b 1) 1 1 ≡ Bad out_of_range 1 → taken_code (taken_of t run) ≡ 3
+  bad-code : (run : Bool) → required 86 (Range.From 1 16777216) (operand_up_to operand_most b 1) 1 ≡ Bad out_of_range 1 → taken_code (taken_of t run) ≡ 3
   unfolding line_judged
   bad-code run e = judged-code (Refused (bad_operand 1)) (rw (reading_law t 0, read_there, e)) run
 

@@ -1,8 +1,10 @@
 -- For the code: what a body orders, a small value, so that the core is changed in one place and copied once.
 -- Assumes nothing.
 use Rattle.std.specs.Prelude.{ℕ, cond, ltb}
+use Rattle.motor.specs.declared.Wait.{Wait}
+use Rattle.motor.specs.Motion.{waiting}
 use Rattle.turns.specs.declared.Core.{Core}
-use Rattle.turns.specs.Turns.{with_endless, jog_ended, started, ended}
+use Rattle.turns.specs.Turns.{with_motor, with_endless, started, ended}
 use Rattle.obeying.specs.declared.Change.{Change}
 use Rattle.obeying.specs.declared.Order.{Order}
 use Rattle.obeying.specs.declared.Obeyed.{Obeyed}
@@ -12,7 +14,7 @@ use Rattle.obeying.specs.Obeying.{obeyed, loaded_as}
 abbrev pub changed_by : Change → Core → Core
 changed_by Change.Stay c = c
 changed_by Change.Stop c = ended c.code c
-changed_by Change.Resume c = jog_ended c
+changed_by Change.Resume c = with_motor (waiting Wait.Nothing c.motor) c
 changed_by (Change.Start n) c = started n c
 changed_by (Change.Load n) c = loaded_as n c
 changed_by (Change.Speed n) c = with_endless n c

@@ -15,11 +15,11 @@ use Rattle.lines.specs.Loops.{Checked}
 use Rattle.lines.specs.Bodies.{body_of}
 use Rattle.lines.specs.declared.Body.{Body}
 use Rattle.lines.specs.declared.Immediate.{Immediate}
-use Rattle.motor.specs.Corrections.{position_told}
-use Rattle.motor.specs.Motion.{is_endless}
+use Rattle.motor.specs.declared.Wait.{Wait}
+use Rattle.motor.specs.Motion.{waiting, is_endless}
 use Rattle.motor.specs.Deeds.{code_values}
 use Rattle.turns.specs.declared.Core.{Core}
-use Rattle.turns.specs.Turns.{with_endless, jog_ended, started, ended}
+use Rattle.turns.specs.Turns.{with_motor, with_endless, started, ended}
 use Rattle.obeying.specs.declared.Tell.{Tell}
 use Rattle.obeying.specs.declared.Write.{Write}
 use Rattle.obeying.specs.declared.Obeyed.{Obeyed}
@@ -29,7 +29,7 @@ use Rattle.obeying.specs.Obeying.{step_size, refused_at, telling, silent, writin
 pub data Tells (c : Core) : Tell → Type 0 where
   nothing-told : Tells c Tell.Nothing
   text-told : Tells c Tell.Text
-  position-told : Tells c (Tell.Number (position_told c.settings.mode c.settings.ratio c.motor))
+  position-told : Tells c (Tell.Number c.motor.position)
   speed-told : Tells c (Tell.Number c.settings.speed)
   sample-told : Tells c (Tell.Number c.motor.sample)
   endless-told : Tells c (Tell.Number c.endless)
@@ -56,14 +56,14 @@ pub data Obeys (body : List ℕ) (c : Core) : Obeyed → Type 0 where
   -- "A refused frame carries its own code", and the place of its fault, where it has one, as data
   refuses : (f : Fault) → f.code < code_values → f.place ≤ most_bytes + 1 → Obeys body c (refused_at f c)
   tells : (tell : Tell) → Tells c tell → Obeys body c (telling tell c)
-  -- a store of what lies within the body; 02, E5: it ends a jog
-  stores : (slot at n : ℕ) → at + n ≤ length body → length body ≤ most_bytes → Obeys body c (writing (Write.Store slot at n) (jog_ended c))
+  -- a store of what lies within the body
+  stores : (slot at n : ℕ) → at + n ≤ length body → length body ≤ most_bytes → Obeys body c (writing (Write.Store slot at n) c)
   -- `?9`
   clears : Obeys body c (writing Write.Clear c)
   -- `T`
   stops : body_of body ≡ Body.Immediate Immediate.Terminate → c.running ≡ true → Obeys body c (silent (ended c.code c))
-  -- "`R` alone ends a wait at `H`"; 02, E5: `T` and `R` of an idle unit end a jog
-  resumes : Obeys body c (silent (jog_ended c))
+  -- "`R` alone ends a wait at `H`"
+  resumes : Obeys body c (silent (with_motor (waiting Wait.Nothing c.motor) c))
   -- 02, E3: "It sets only the endless speed"
   speeds : (n : ℕ) → Speeds body c n → Obeys body c (silent (with_endless n c))
   -- `X`, and `R` for a loaded line

@@ -1,6 +1,6 @@
 -- What a body makes of a unit, what is answered, and what is to be written to the image. 01, "Lines" and "What comes back".
 -- Assumes nothing.
-use Rattle.std.specs.Prelude.{ℕ, zero, suc, ◌^◌, min, List, [], Bool, true, false, cond, not, ◌&&◌, take, eqb}
+use Rattle.std.specs.Prelude.{ℕ, zero, suc, ◌^◌, min, List, [], Bool, true, false, cond, ◌&&◌, take, eqb}
 use Rattle.parts.specs.Parts.{part, padded_text}
 use Rattle.digits.specs.Decimal.{decimal}
 use Rattle.commands.specs.declared.Fault.{Fault}
@@ -10,13 +10,12 @@ use Rattle.lines.specs.declared.Immediate.TheVariants.{Terminate, Status, Curren
 use Rattle.lines.specs.declared.Body.{Body}
 use Rattle.lines.specs.declared.Taken.{Taken}
 use Rattle.lines.specs.Bodies.{body_of, line_of, line_fault}
-use Rattle.image.specs.Calls.{stored_of, is_full, after_store, after_clear}
+use Rattle.image.specs.Calls.{after_store, after_clear}
 use Rattle.flow.specs.Flow.{begun}
 use Rattle.motor.specs.declared.Wait.{Wait}
-use Rattle.motor.specs.Corrections.{position_told}
 use Rattle.motor.specs.Motion.{waiting, waits_input, is_endless}
 use Rattle.turns.specs.declared.Core.{Core}
-use Rattle.turns.specs.Turns.{core, with_motor, with_endless, jog_ended, started, ended}
+use Rattle.turns.specs.Turns.{core, with_motor, with_endless, started, ended}
 use Rattle.obeying.specs.declared.Tell.{Tell}
 use Rattle.obeying.specs.declared.Write.{Write}
 use Rattle.obeying.specs.declared.Obeyed.{Obeyed}
@@ -66,16 +65,16 @@ writing write c = obeyed c c.code Tell.Nothing write
 abbrev pub nothing_obeyed : Core → Obeyed
 nothing_obeyed c = silent c
 
--- "`T` when idle does nothing", but 02, E5: ends a jog; it leaves the held code
+-- "`T` when idle does nothing"; it leaves the held code
 abbrev pub terminated : Core → Core
-terminated c = cond c.running (ended c.code c) (jog_ended c)
+terminated c = cond c.running (ended c.code c) c
 
 -- "Immediate bodies .. are obeyed while running"
 abbrev pub immediate_obeyed : Immediate → Core → Obeyed
 immediate_obeyed Terminate c = silent (terminated c)
 immediate_obeyed Status c = silent c
 immediate_obeyed CurrentText c = telling Tell.Text c
-immediate_obeyed Position c = telling (Tell.Number (position_told c.settings.mode c.settings.ratio c.motor)) c
+immediate_obeyed Position c = telling (Tell.Number c.motor.position) c
 immediate_obeyed Speed c = telling (Tell.Number c.settings.speed) c
 immediate_obeyed Sample c = telling (Tell.Number c.motor.sample) c
 immediate_obeyed EndlessSpeed c = telling (Tell.Number c.endless) c
@@ -92,27 +91,27 @@ abbrev pub resumed : Core → Obeyed
 resumed c =
     cond (waits_input c.motor.wait) (silent (with_motor (waiting Wait.Nothing c.motor) c)) (refused busy c)
 
--- "when idle it runs a loaded line not yet run, else does nothing", but 02, E5: ends a jog
+-- "when idle it runs a loaded line not yet run, else does nothing"
 abbrev pub run_obeyed : Core → Obeyed
-run_obeyed c = cond c.running (resumed c) (silent (cond c.loaded (started c.flow.length c) (jog_ended c)))
+run_obeyed c = cond c.running (resumed c) (silent (cond c.loaded (started c.flow.length c) c))
 
 -- "`X` alone, when idle, runs the current text again"
 abbrev pub again_obeyed : Core → Obeyed
 again_obeyed c = cond c.running (refused busy c) (silent (started c.flow.length c))
 
--- "without, it is loaded and held": the text is at its beginning, and has not been run; 02, E5: it ends a jog
+-- "without, it is loaded and held": the text is at its beginning, and has not been run
 unfoldable pub loaded_as : ℕ → Core → Core
-loaded_as n c = core (begun n) (waiting Wait.Nothing c.motor) c.settings false true c.code c.endless
+loaded_as n c = core (begun n) c.motor c.settings false true c.code c.endless
 
 -- "With `R` it runs"
 abbrev pub loaded_for : Bool → ℕ → Core → Core
 loaded_for run n c = cond run (started n c) (loaded_as n c)
 
--- "either way its commands .. become the current text"; a store "starts no run and leaves the current text"; 02, E5: either ends a jog
+-- "either way its commands .. become the current text"; a store "starts no run and leaves the current text"
 abbrev pub line_obeyed : Taken → Core → Obeyed
 line_obeyed (Taken.Refused f) c = refused_at f c
 line_obeyed (Taken.Line n run) c = writing (Write.Text n) (loaded_for run n c)
-line_obeyed (Taken.Store slot at n) c = writing (Write.Store slot at n) (jog_ended c)
+line_obeyed (Taken.Store slot at n) c = writing (Write.Store slot at n) c
 
 -- 02, E3: "It sets only the endless speed"; "such a line with a missing or bad operand gives 3", as an idle unit does, with the place
 abbrev pub speed_obeyed : List ℕ → Core → Obeyed
@@ -152,20 +151,3 @@ image_written Write.Nothing body image = image
 image_written (Write.Text n) body image = image
 image_written (Write.Store slot at n) body image = after_store image slot (part body at n)
 image_written Write.Clear body image = after_clear image
-
--- ---- on an image
-
--- 02, E7: whether there is room in the image for what is to be written
-abbrev pub room_for : Write → List ℕ → List ℕ → Bool
-room_for Write.Nothing body image = true
-room_for (Write.Text n) body image = true
-room_for (Write.Store slot at n) body image = not (is_full (stored_of image slot (part body at n)))
-room_for Write.Clear body image = true
-
--- 02, E7: "a store that passes 01's checks is refused with 15 exactly when ..", "tested last": as every refusal, with nothing changed
-abbrev pub held_to : List ℕ → List ℕ → Core → Obeyed → Obeyed
-held_to body image c o = cond (room_for o.write body image) o (refused busy c)
-
--- a body obeyed by a unit that is lent an image
-abbrev pub obeyed_on : List ℕ → List ℕ → Core → Obeyed
-obeyed_on body image c = held_to body image c (body_obeyed body c)

@@ -50,7 +50,7 @@ enum Change {
     Stay,
     // The run ends, and the held code stays.
     Stop,
-    // A wait at `H` or a jog ends.
+    // A wait at `H` ends.
     Resume,
     // A run starts on a text of so many bytes.
     Start(usize),
@@ -102,21 +102,19 @@ fn changed(c: Core, change: Change) -> Core
     match change {
         Change::Stay => {}
         Change::Stop => {
-            d.motor = motor::stop(m, c.code);
+            d.motor = motor::stop(m);
             d.running = false;
         }
         Change::Resume => {
             d.motor = motor::resume(m);
         }
         Change::Start(n) => {
-            d.motor = motor::resume(m);
             d.flow = flow::begin(n);
             d.running = true;
             d.loaded = false;
             d.code = 0;
         }
         Change::Load(n) => {
-            d.motor = motor::resume(m);
             d.flow = flow::begin(n);
             d.running = false;
             d.loaded = true;
@@ -221,10 +219,7 @@ fn order_immediate(c: Core, i: Immediate) -> Order
         Immediate::Terminate => hold(terminate(c), Tell::Nothing),
         Immediate::Status => hold(Change::Stay, Tell::Nothing),
         Immediate::CurrentText => hold(Change::Stay, Tell::Text),
-        Immediate::Position => hold(
-            Change::Stay,
-            Tell::Number(motor::told_position(m, s.mode, s.ratio)),
-        ),
+        Immediate::Position => hold(Change::Stay, Tell::Number(m.position)),
         Immediate::Speed => hold(Change::Stay, Tell::Number(s.speed)),
         Immediate::Sample => hold(Change::Stay, Tell::Number(wide(m.sample))),
         Immediate::EndlessSpeed => hold(Change::Stay, Tell::Number(c.endless)),
@@ -241,7 +236,7 @@ fn terminate(c: Core) -> Change
     if c.running {
         return Change::Stop;
     }
-    Change::Resume
+    Change::Stay
 }
 
 // A byte as a number of 32 bits.
@@ -278,7 +273,7 @@ fn order_run(c: Core) -> Order
     if c.loaded {
         return hold(run_text(c), Tell::Nothing);
     }
-    hold(Change::Resume, Tell::Nothing)
+    hold(Change::Stay, Tell::Nothing)
 }
 
 // `R` while running.
@@ -323,7 +318,7 @@ fn order_line(c: Core, body: &[u8]) -> Order
         Taken::Refused(f) => refuse_at(f),
         Taken::Line { length, run } => hold_writing(load(length, run), Write::Text(length)),
         Taken::Store { slot, at, length } => hold_writing(
-            Change::Resume,
+            Change::Stay,
             Write::Store {
                 slot: slot,
                 at: at,

@@ -1,5 +1,6 @@
 // The endless speed set on the way: a body of exactly `V`, its operand and `R`.
 ghost use Rattle.std.specs.Prelude.{◌≡◌};
+ghost use Rattle.digits.specs.Operand.{operand_at};
 ghost use Rattle.obeying.specs.Speed.{operand_end, number_in, speed_line, speed_in};
 
 use digits::Operand;

@@ -1,38 +1,34 @@
 -- What has no fault passes: the other direction of `PassedLaws`. So what came into ours without an `L` goes back as it is. Assumes nothing.
 use Prim.Native.Nat.{ℕ, zero, suc, ◌+◌, ◌-◌, ◌≤◌, ◌<◌}
 use mathlib.Core.Path.{◌≡◌, refl, sym, ap, subst, ◌∙◌}
-use mathlib.Core.List.{List, [], ◌∷◌, ◌++◌, map}
+use mathlib.Core.List.{List, [], ◌∷◌, map}
 use mathlib.Core.Bool.{Bool, true, false, ◌||◌, true≢false}
 use native.Mathlib.Omega.{arith}
 use lib.ListN.{length, get_or, length-map}
-use borrow.Author.Tests.{lt-ltb, le-ltb, eqb-true}
+use borrow.Author.Tests.{lt-ltb, le-ltb}
 use Rattle.parts.proofs.Laws.{get_d_part}
 use Rattle.commands.specs.declared.Command.{Command}
-use Rattle.digits.specs.ReadBack.{spelling}
-use Rattle.commands.specs.declared.Name.{Name}
 use Rattle.commands.specs.declared.Asks.{Asks}
 use Rattle.commands.specs.declared.Asks.TheVariants.{Unknown, Nothing, Required, OrElse}
 use Rattle.commands.specs.declared.Spelling.{Spelling}
 use Rattle.commands.specs.declared.Spelling.TheVariants.{Alone, WithNumber, WithTwoDigits}
 use Rattle.commands.specs.declared.Read.{Read}
 use Rattle.commands.specs.declared.Read.TheVariants.{At, Bad, End}
-use Rattle.commands.specs.Table.{one, one_of, asks_of}
-use Rattle.commands.specs.Reading.{is_long, read_at}
-use Rattle.commands.specs.Writing.{spelling_of, name_in_lem, two_digits_lem, permits, permitted, in_range, zeroed, SpellsCommand, full, bare-G, bare-H}
-use Rattle.commands.proofs.TableLaws.{name_is, typed-name, no_more}
-use Rattle.commands.proofs.SpellingLaws.{name-first}
+use Rattle.commands.specs.Table.{asks_of}
+use Rattle.commands.specs.Reading.{read_at}
+use Rattle.commands.specs.Writing.{spelling_of, permits, permitted, in_range, zeroed, SpellsCommand, full, bare-G, bare-H}
 use Rattle.commands.proofs.ReadingLaws.{read_step, read_end}
 use Rattle.commands.proofs.SpelledLaws.{spells_as}
 use Rattle.lines.specs.Texts.{Placed, placed, unplaced, these, amiss, bare, bare_from, structured, fault_places, leftmost}
 use Rattle.lines.specs.Lists.{commands_text}
 use Rattle.lines.proofs.PlaceLaws.{places-none, nil-none}
-use Rattle.lines.proofs.TextLaws.{reading_law, bare-end, bare-at, bare_is}
+use Rattle.lines.proofs.TextLaws.{reading_law, bare-end, bare_at, bare_is}
 use Rattle.lines.proofs.CodeLaws.{read_sound}
 use Rattle.older.specs.declared.Way.{Way}
 use Rattle.older.specs.declared.Way.TheVariants.{Inward, Outward}
 use Rattle.older.specs.declared.Stands.TheVariants.{Carries, Ends}
-use Rattle.older.specs.Older.{older_table, older_in, older_asks, has_row, both_have, letter_of, number_of, older_in_range, older_takes, sets_ramp, becomes}
-use Rattle.older.specs.Items.{item_stands, Item, carries, items_in, items_from, letter_places, operand_places, items_placed, most_carried, places_past, refusal_of, carried_commands, any_ramp, text_for}
+use Rattle.older.specs.Older.{older_asks, has_row, both_have, letter_of, number_of, older_in_range, older_takes, sets_ramp, becomes}
+use Rattle.older.specs.Items.{stands_at, Item, carries, items_in, items_from, letter_places, operand_places, items_placed, most_carried, places_past, refusal_of, carried_commands, any_ramp, text_for}
 use Rattle.older.specs.Examples.{gives, outcome}
 use Rattle.older.specs.Claims.{all_taken, Passed}
 use Rattle.older.proofs.CarryLaws.{both, becomes-same, takes_same}
@@ -42,9 +38,9 @@ use Rattle.older.proofs.PassedLaws.{all_carry, same_structure, any_stays, some_a
 -- ---- a command that the older drive takes stands by a letter that both have
 
 lead : (sp : Spelling) (z : ℕ) → get_or (zeroed sp z) 0 0 ≡ letter_of sp
-lead (Alone l) z = ap (λ (b : List ℕ). get_or b 0 0) (name-first l)
-lead (WithNumber l n) z = ap (λ (b : List ℕ). get_or (b ++ spelling z n) 0 0) (name-first l)
-lead (WithTwoDigits l n) z = ap (λ (b : List ℕ). get_or (b ++ two_digits_lem n) 0 0) (name-first l)
+lead (Alone l) z = refl
+lead (WithNumber l n) z = refl
+lead (WithTwoDigits l n) z = refl
 
 first-letter : (c : Command) (b : List ℕ) → SpellsCommand c b → get_or b 0 0 ≡ letter_of (spelling_of c)
 first-letter c b (full d z w) = lead (spelling_of d) z
@@ -63,21 +59,10 @@ has_row_lem Nothing n h = refl
 has_row_lem (Required r) n h = refl
 has_row_lem (OrElse r m) n h = refl
 
-has_named : (sp : Spelling) → permitted sp ≡ true → has_row (asks_of (name_in_lem sp)) ≡ true
-has_named (Alone l) h = has_row_lem (asks_of l) 0 h
-has_named (WithNumber l n) h = has_row_lem (asks_of l) n h
-has_named (WithTwoDigits l n) h = has_row_lem (asks_of l) n h
-
--- a name whose first letter the older drive has is one letter long
-one-letter : (l : Name) → has_row (older_asks l.letter) ≡ true → has_row (asks_of l) ≡ true → has_row (asks_of (one l.letter)) ≡ true
-unfolding older_asks older_in older_table one_of
-one-letter l o h = go (is_long l.letter) refl
-  where
-    go : (b : Bool) → is_long l.letter ≡ b → has_row (asks_of (one l.letter)) ≡ true
-    go true q = absurd (true≢false (sym (rw (eqb-true l.letter 97 q) at o)))
-    go false q =
-        let typed = typed-name l (λ e. true≢false (sym h ∙ ap has_row e)) in
-        rw (← name_is l (one l.letter) refl (no_more l typed q)) h
+has_ours : (sp : Spelling) → permitted sp ≡ true → has_row (asks_of (letter_of sp)) ≡ true
+has_ours (Alone l) h = has_row_lem (asks_of l) 0 h
+has_ours (WithNumber l n) h = has_row_lem (asks_of l) n h
+has_ours (WithTwoDigits l n) h = has_row_lem (asks_of l) n h
 
 same-letter : (w : Way) (c : Command) → letter_of (spelling_of (becomes w c)) ≡ letter_of (spelling_of c)
 unfolding becomes sets_ramp
@@ -95,18 +80,18 @@ older_has Outward c h = rw (← same-letter Outward c) (has_row_lem (older_asks 
 both_have_lem : (w : Way) (t : List ℕ) (at : ℕ) (c : Command) (n : ℕ) → read_at t at ≡ At c n → older_takes w c ≡ true → both_have (get_or t at 0) ≡ true
 unfolding both_have in_range
 both_have_lem w t at c n e h =
-    let named = has_named (spelling_of c) (spells_as t at c n e).in-range in
-    rw (read_letter t at c n e, older_has w c h) (one-letter (name_in_lem (spelling_of c)) (older_has w c h) named)
+    let ours : has_row (asks_of (letter_of (spelling_of c))) ≡ true = has_ours (spelling_of c) (spells_as t at c n e).in-range in
+    rw (read_letter t at c n e, older_has w c h) ours
 
-stands-carries : (w : Way) (t : List ℕ) (at : ℕ) (c : Command) (n : ℕ) → read_at t at ≡ At c n → older_takes w c ≡ true → item_stands w t at ≡ Carries (becomes w c) n
-unfolding item_stands
+stands-carries : (w : Way) (t : List ℕ) (at : ℕ) (c : Command) (n : ℕ) → read_at t at ≡ At c n → older_takes w c ≡ true → stands_at w t at ≡ Carries (becomes w c) n
+unfolding stands_at
 stands-carries w t at c n e h =
     let s = read_step t at e in
     let l : at < length t = omega arith in
     rw (lt-ltb at (length t) l, both_have_lem w t at c n e h, e, h)
 
-stands-end : (w : Way) (t : List ℕ) (at : ℕ) → length t ≤ at → item_stands w t at ≡ Ends
-unfolding item_stands
+stands-end : (w : Way) (t : List ℕ) (at : ℕ) → length t ≤ at → stands_at w t at ≡ Ends
+unfolding stands_at
 stands-end w t at l = rw (le-ltb at (length t) l)
 
 -- ---- so all of a text carries over
@@ -120,7 +105,7 @@ no_commands : (w : Way) (cs : List Command) → cs ≡ [] → Clean w [] cs
 unfolding letter_places operand_places carried_commands
 no_commands w cs e = record { letters = refl; operands = refl; are = rw e }
 
-clean_more : (k : ℕ) (w : Way) (t : List ℕ) (at : ℕ) (c : Command) (n : ℕ) (ds : List Command) → item_stands w t at ≡ Carries (becomes w c) n
+clean_more : (k : ℕ) (w : Way) (t : List ℕ) (at : ℕ) (c : Command) (n : ℕ) (ds : List Command) → stands_at w t at ≡ Carries (becomes w c) n
     → Clean w (items_in k w t n) ds → Clean w (items_in (suc k) w t at) (c ∷ ds)
 unfolding items_in letter_places operand_places carried_commands
 clean_more k w t at c n ds s y = record { letters = rw s y.letters; operands = rw s y.operands; are = rw s (ap (λ (xs : List Command). becomes w c ∷ xs) y.are) }
@@ -137,7 +122,7 @@ clean (suc k) w t at cs m e h = go (read_at t at) refl (λ n ds a b c. clean k w
     go : (r : Read) → read_at t at ≡ r → ((n : ℕ) (ds : List Command) → length t ≤ n + k → bare_from t n ≡ these ds → all_taken w ds ≡ true → Clean w (items_in k w t n) ds)
         → Clean w (items_in (suc k) w t at) cs
     go (At c n) q rest =
-        let b = bare_is c (bare_from t n) cs (sym (bare-at t at q) ∙ e) in
+        let b = bare_is c (bare_from t n) cs (sym (bare_at t at q) ∙ e) in
         let all : all_taken w (c ∷ b.0) ≡ true = sym (ap (all_taken w) b.2) ∙ h in
         let x = both (older_takes w c) (all_taken w b.0) all in
         let s = read_step t at q in
@@ -169,9 +154,9 @@ told_so : (w : Way) (t r : List ℕ) (slowed : Bool) → letter_places (items_fr
 unfolding outcome refusal_of leftmost
 told_so w t r slowed l o s m e f = rw (l, o, s, m, e, f)
 
-pub passes-back : (w : Way) (t r : List ℕ) (slowed : Bool) → Passed w t r slowed → outcome w t ≡ gives r slowed
+pub passes_back : (w : Way) (t r : List ℕ) (slowed : Bool) → Passed w t r slowed → outcome w t ≡ gives r slowed
 unfolding items_from
-passes-back w t r slowed p =
+passes_back w t r slowed p =
     let is : List Item = items_from w t 0 in
     let cs : List Command = p.commands in
     let c = clean (length t) w t 0 cs (omega arith) p.reads p.taken in
@@ -204,7 +189,7 @@ goes_back t r e =
     let o = over Inward t r false e in
     let cs : List Command = o.main.commands in
     let none : any_ramp cs ≡ false = no_some cs (λ s. true≢false (sym (o.main.ramp.1 s))) in
-    passes-back Outward r r false record {
+    passes_back Outward r r false record {
       commands = cs;
       reads = over_reads o ∙ ap these (no_ramp Inward cs none);
       taken = all_same cs none o.main.taken;

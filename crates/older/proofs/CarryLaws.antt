@@ -2,7 +2,7 @@
 use Prim.Native.Nat.{ℕ, ◌≤◌}
 use mathlib.Core.Path.{◌≡◌, refl, sym, ap, ◌∙◌}
 use mathlib.Core.List.{List, [], ◌∷◌, ◌++◌}
-use mathlib.Core.Bool.{Bool, true, false, cond, ◌&&◌, ◌||◌, and_false}
+use mathlib.Core.Bool.{Bool, true, false, cond, ◌&&◌, ◌||◌, and-false}
 use native.Mathlib.Omega.{arith}
 use types.Run.{OneOf, miss}
 use denote.Enum.Declared.{tag_of}
@@ -12,11 +12,11 @@ use Rattle.commands.specs.declared.Command.{Command}
 use Rattle.commands.specs.declared.Command.TheVariants.{LoopBegin, LoopEnd, Skip, Jump, Plain}
 use Rattle.commands.specs.contracts.Command as CommandType
 use Rattle.commands.specs.declared.Act.{Act}
-use Rattle.commands.specs.declared.Act.TheVariants.{MoveTo, MoveUp, MoveDown, SetPosition, Home, Set, Delay, WaitInput, Recover}
+use Rattle.commands.specs.declared.Act.TheVariants.{MoveTo, MoveUp, MoveDown, SetPosition, Home, Set, Delay, WaitInput}
 use Rattle.commands.specs.contracts.Act as ActType
 use Rattle.commands.specs.declared.Asks.TheVariants.{Unknown}
 use Rattle.commands.specs.declared.Setting.TheVariants.{Acceleration, Correction}
-use Rattle.commands.specs.Table.{top, one_of, table, find, asks_of, within}
+use Rattle.commands.specs.Table.{one_of, table, find, asks_of, within}
 use Rattle.commands.specs.Writing.{in_range}
 use Rattle.older.specs.declared.Way.{Way}
 use Rattle.older.specs.declared.Way.TheVariants.{Inward, Outward}
@@ -62,9 +62,8 @@ pub both : (a b : Bool) → (a && b) ≡ true → (a ≡ true) × (b ≡ true)
 both true b h = (refl, h)
 both false b h = let z : ◌≡◌ {A = ℕ} 0 1 = cc in absurd (omega arith)
 
--- a range that goes further has what the other has
-pub wider : (n a b : ℕ) → a ≤ b → (leb 0 n && leb n a) ≡ true → (leb 0 n && leb n b) ≡ true
-wider n a b l h = let k = both (leb 0 n) (leb n a) h in rw k.0 (le-leb n b (omega (arith, l, leb-true n a k.1)))
+wider : (n : ℕ) → (leb 0 n && leb n 2147483647) ≡ true → (leb 0 n && leb n 4294967296) ≡ true
+wider n h = let k = both (leb 0 n) (leb n 2147483647) h in rw k.0 (le-leb n 4294967296 (omega (arith, leb-true n 2147483647 k.1)))
 
 pub not_plain : (w : Way) (c : Command) → OneOf (0 ∷ 1 ∷ 2 ∷ 3 ∷ []) (tag_of CommandType.the_type c) → in_range c ≡ true → Fit c ≡ carried_of w c
 unfolding in_range sets_ramp older_in_range older_asks older_in older_table one_of asks_of find table within
@@ -74,21 +73,16 @@ not_plain w (Skip n) t h = carried_fit w (Skip n) refl h
 not_plain w (Jump n) t h = carried_fit w (Jump n) refl h
 not_plain w (Plain a) t h = absurd (miss (0 ∷ 1 ∷ 2 ∷ 3 ∷ []) 4 tt t)
 
-pub not_set : (w : Way) (a : Act) → OneOf (0 ∷ 1 ∷ 2 ∷ 3 ∷ 4 ∷ 6 ∷ 7 ∷ 8 ∷ []) (tag_of ActType.the_type a) → in_range (Plain a) ≡ true → (a ≡ Recover → ⊥)
-    → Fit (Plain a) ≡ carried_of w (Plain a)
+pub not_set : (w : Way) (a : Act) → OneOf (0 ∷ 1 ∷ 2 ∷ 3 ∷ 4 ∷ 6 ∷ 7 ∷ []) (tag_of ActType.the_type a) → in_range (Plain a) ≡ true → Fit (Plain a) ≡ carried_of w (Plain a)
 unfolding in_range sets_ramp older_in_range older_asks older_in older_table one_of asks_of find table within
-not_set w (MoveTo n) t h r = carried_fit w (Plain (MoveTo n)) refl (wider n top 4294967296 (omega arith) h)
-not_set w (MoveUp n) t h r = carried_fit w (Plain (MoveUp n)) refl (wider n top 4294967296 (omega arith) h)
-not_set w (MoveDown n) t h r = carried_fit w (Plain (MoveDown n)) refl (wider n top 4294967296 (omega arith) h)
-not_set w (SetPosition n) t h r = carried_fit w (Plain (SetPosition n)) refl (wider n top 4294967296 (omega arith) h)
-not_set w (Home n) t h r = carried_fit w (Plain (Home n)) refl (wider n top 4294967296 (omega arith) h)
-not_set w (Set which n) t h r = absurd (miss (0 ∷ 1 ∷ 2 ∷ 3 ∷ 4 ∷ 6 ∷ 7 ∷ 8 ∷ []) 5 tt t)
-not_set w (Delay n) t h r = carried_fit w (Plain (Delay n)) refl h
-not_set w (WaitInput n) t h r = carried_fit w (Plain (WaitInput n)) refl h
-not_set w Recover t h r = absurd (r refl)
-
-pub not-recover : (a : Act) → OneOf (0 ∷ 1 ∷ 2 ∷ 3 ∷ 4 ∷ 5 ∷ 6 ∷ 7 ∷ []) (tag_of ActType.the_type a) → a ≡ Recover → ⊥
-not-recover a t e = miss (0 ∷ 1 ∷ 2 ∷ 3 ∷ 4 ∷ 5 ∷ 6 ∷ 7 ∷ []) 8 tt (rw e at t)
+not_set w (MoveTo n) t h = carried_fit w (Plain (MoveTo n)) refl (wider n h)
+not_set w (MoveUp n) t h = carried_fit w (Plain (MoveUp n)) refl (wider n h)
+not_set w (MoveDown n) t h = carried_fit w (Plain (MoveDown n)) refl (wider n h)
+not_set w (SetPosition n) t h = carried_fit w (Plain (SetPosition n)) refl (wider n h)
+not_set w (Home n) t h = carried_fit w (Plain (Home n)) refl (wider n h)
+not_set w (Set which n) t h = absurd (miss (0 ∷ 1 ∷ 2 ∷ 3 ∷ 4 ∷ 6 ∷ 7 ∷ []) 5 tt t)
+not_set w (Delay n) t h = carried_fit w (Plain (Delay n)) refl h
+not_set w (WaitInput n) t h = carried_fit w (Plain (WaitInput n)) refl h
 
 -- neither sets the acceleration
 pub no_plain-ramp : (c : Command) → OneOf (0 ∷ 1 ∷ 2 ∷ 3 ∷ []) (tag_of CommandType.the_type c) → false ≡ sets_ramp c
@@ -99,17 +93,16 @@ no_plain-ramp (Skip n) t = refl
 no_plain-ramp (Jump n) t = refl
 no_plain-ramp (Plain a) t = absurd (miss (0 ∷ 1 ∷ 2 ∷ 3 ∷ []) 4 tt t)
 
-pub no_set-ramp : (a : Act) → OneOf (0 ∷ 1 ∷ 2 ∷ 3 ∷ 4 ∷ 6 ∷ 7 ∷ 8 ∷ []) (tag_of ActType.the_type a) → false ≡ sets_ramp (Plain a)
+pub no_set-ramp : (a : Act) → OneOf (0 ∷ 1 ∷ 2 ∷ 3 ∷ 4 ∷ 6 ∷ 7 ∷ []) (tag_of ActType.the_type a) → false ≡ sets_ramp (Plain a)
 unfolding sets_ramp
 no_set-ramp (MoveTo n) t = refl
 no_set-ramp (MoveUp n) t = refl
 no_set-ramp (MoveDown n) t = refl
 no_set-ramp (SetPosition n) t = refl
 no_set-ramp (Home n) t = refl
-no_set-ramp (Set which n) t = absurd (miss (0 ∷ 1 ∷ 2 ∷ 3 ∷ 4 ∷ 6 ∷ 7 ∷ 8 ∷ []) 5 tt t)
+no_set-ramp (Set which n) t = absurd (miss (0 ∷ 1 ∷ 2 ∷ 3 ∷ 4 ∷ 6 ∷ 7 ∷ []) 5 tt t)
 no_set-ramp (Delay n) t = refl
 no_set-ramp (WaitInput n) t = refl
-no_set-ramp Recover t = refl
 
 -- no correction is in both ranges
 pub no_correction : (w : Way) (n : ℕ) → in_range (Plain (Set Correction n)) ≡ true → NoFit ≡ carried_of w (Plain (Set Correction n))
@@ -117,7 +110,7 @@ unfolding in_range sets_ramp older_in_range older_asks older_in older_table one_
 no_correction w n h =
     let k = both (leb 1400 n) (leb n 1650) h in
     let l = leb-true 1400 n k.0 in
-    let e : older_in_range (Plain (Set Correction n)) ≡ false = rw (lt-leb n 250 (omega arith)) (and_false (leb 0 n)) in
+    let e : older_in_range (Plain (Set Correction n)) ≡ false = rw (lt-leb n 250 (omega arith)) (and-false (leb 0 n)) in
     sym (carried_same w (Plain (Set Correction n)) refl ∙ rw e)
 
 -- an `L` that was read is small

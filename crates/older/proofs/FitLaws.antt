@@ -10,16 +10,15 @@ use borrow.Author.Tests.{le-leb, leb-true, eqb-true, eqb-false}
 use Rattle.parts.proofs.Laws.{cases}
 use Rattle.commands.specs.declared.Command.{Command}
 use Rattle.commands.specs.declared.Command.TheVariants.{LoopBegin, LoopEnd, Skip, Jump, Plain}
-use Rattle.commands.specs.declared.Act.TheVariants.{MoveTo, MoveUp, MoveDown, SetPosition, Home, Set, Delay, WaitInput, Recover}
-use Rattle.commands.specs.declared.Setting.TheVariants.{TopSpeed, Acceleration, FlagLevel, Turned, MoveCurrent, HoldCurrent, StepSize, Correction, Outputs, Baud, Mode, Distance, Allowed, Ratio, Tries}
+use Rattle.commands.specs.declared.Act.TheVariants.{MoveTo, MoveUp, MoveDown, SetPosition, Home, Set, Delay, WaitInput}
+use Rattle.commands.specs.declared.Setting.TheVariants.{TopSpeed, Acceleration, FlagLevel, Turned, MoveCurrent, HoldCurrent, StepSize, Correction, Outputs, Baud}
 use Rattle.commands.specs.declared.Read.{Read}
 use Rattle.commands.specs.declared.Read.TheVariants.{At, Bad, End}
 use Rattle.commands.specs.Table.{one_of, table, find, asks_of, within}
 use Rattle.commands.specs.Reading.{read_at}
-use Rattle.commands.specs.Writing.{spelling_of, name_in_lem, spelled, in_range}
+use Rattle.commands.specs.Writing.{spelled, in_range}
 use Rattle.commands.proofs.SpellingLaws.{spells_itself}
 use Rattle.commands.proofs.SpelledLaws.{spells_as}
-use Rattle.commands.proofs.MadeLaws.{name-most}
 use Rattle.commands.proofs.WritingLaws.{spelling-most}
 use Rattle.lines.specs.Texts.{Placed, placed, fault_places, left_of, leftmost}
 use Rattle.lines.specs.Lists.{commands_text, all_in_range}
@@ -30,7 +29,7 @@ use Rattle.older.specs.declared.Stands.{Stands}
 use Rattle.older.specs.declared.Stands.TheVariants.{Carries, Lacks, Unfit, Ends}
 use Rattle.older.specs.declared.Refusal.{Refusal}
 use Rattle.older.specs.Older.{older_table, older_in, older_asks, both_have, older_in_range, sets_ramp, slower, becomes, older_takes}
-use Rattle.older.specs.Items.{stand_in, stands_read, item_stands, Item, carries, lacks, unfit, items_on, items_in, items_from, letter_places, operand_places, items_placed, most_carried, places_past, sooner, soonest, refusal_of, carried_commands, text_for, judged_for}
+use Rattle.older.specs.Items.{stand_in, stands_read, stands_at, Item, carries, lacks, unfit, items_on, items_in, items_from, letter_places, operand_places, items_placed, most_carried, places_past, sooner, soonest, refusal_of, carried_commands, text_for, judged_for}
 use Rattle.older.proofs.CarryLaws.{both, becomes-same}
 use Rattle.older.proofs.ItemLaws.{good-goes, letter-goes, unfit-goes}
 
@@ -61,14 +60,8 @@ ramp_is (Plain (Set StepSize n)) e = no (sym e)
 ramp_is (Plain (Set Correction n)) e = no (sym e)
 ramp_is (Plain (Set Outputs n)) e = no (sym e)
 ramp_is (Plain (Set Baud n)) e = no (sym e)
-ramp_is (Plain (Set Mode n)) e = no (sym e)
-ramp_is (Plain (Set Distance n)) e = no (sym e)
-ramp_is (Plain (Set Allowed n)) e = no (sym e)
-ramp_is (Plain (Set Ratio n)) e = no (sym e)
-ramp_is (Plain (Set Tries n)) e = no (sym e)
 ramp_is (Plain (Delay n)) e = no (sym e)
 ramp_is (Plain (WaitInput n)) e = no (sym e)
-ramp_is (Plain Recover) e = no (sym e)
 
 ramp_in_range : (n : ℕ) → 1 ≤ n → n ≤ 65000 → in_range (Plain (Set Acceleration n)) ≡ true
 unfolding in_range asks_of find table within
@@ -102,8 +95,8 @@ pub record CarriedFrom (w : Way) (t : List ℕ) (at : ℕ) (d : Command) (n : �
   pub takes : older_takes w command ≡ true
   pub is : d ≡ becomes w command
 
-pub carried_from : (w : Way) (t : List ℕ) (at : ℕ) {d : Command} {n : ℕ} → item_stands w t at ≡ Carries d n → CarriedFrom w t at d n
-unfolding item_stands
+pub carried_from : (w : Way) (t : List ℕ) (at : ℕ) {d : Command} {n : ℕ} → stands_at w t at ≡ Carries d n → CarriedFrom w t at d n
+unfolding stands_at
 carried_from w t at {d} {n} e = go (ltb at (length t)) (both_have (get_or t at 0)) (read_at t at) refl e
   where
     taken : (c : Command) (next : ℕ) (x : Bool) → read_at t at ≡ At c next → older_takes w c ≡ x
@@ -121,7 +114,7 @@ carried_from w t at {d} {n} e = go (ltb at (length t)) (both_have (get_or t at 0
     go true false r q h = let z : ◌≡◌ {A = ℕ} 0 1 = cc in absurd (omega arith)
     go false b r q h = let z : ◌≡◌ {A = ℕ} 0 1 = cc in absurd (omega arith)
 
-pub carried_in_range : (w : Way) (t : List ℕ) (at : ℕ) {d : Command} {n : ℕ} → item_stands w t at ≡ Carries d n → in_range d ≡ true
+pub carried_in_range : (w : Way) (t : List ℕ) (at : ℕ) {d : Command} {n : ℕ} → stands_at w t at ≡ Carries d n → in_range d ≡ true
 carried_in_range w t at e =
     let k = carried_from w t at e in
     rw k.is (becomes_in_range w k.command (spells_as t at k.command _ k.reads).in-range k.takes)
@@ -131,9 +124,9 @@ carried_in_range w t at e =
 all_in : (k : ℕ) (w : Way) (t : List ℕ) (at : ℕ) → all_in_range (carried_commands (items_in k w t at)) ≡ true
 unfolding items_in carried_commands all_in_range
 all_in zero w t at = refl
-all_in (suc k) w t at = go (item_stands w t at) refl (λ n. all_in k w t n)
+all_in (suc k) w t at = go (stands_at w t at) refl (λ n. all_in k w t n)
   where
-    go : (s : Stands) → item_stands w t at ≡ s → ((n : ℕ) → all_in_range (carried_commands (items_in k w t n)) ≡ true)
+    go : (s : Stands) → stands_at w t at ≡ s → ((n : ℕ) → all_in_range (carried_commands (items_in k w t n)) ≡ true)
         → all_in_range (carried_commands (items_on at s (λ n. items_in k w t n))) ≡ true
     go (Carries c n) e rest = rw (carried_in_range w t at e) (rest n)
     go Lacks e rest = rest (at + 1)
@@ -147,9 +140,9 @@ all_in_range_lem w t = all_in (length t) w t 0
 inside_in : (k : ℕ) (w : Way) (t : List ℕ) (at : ℕ) → AllInside (length t) (items_placed (items_in k w t at))
 unfolding items_in items_placed
 inside_in zero w t at = tt
-inside_in (suc k) w t at = go (item_stands w t at) refl (λ n. inside_in k w t n)
+inside_in (suc k) w t at = go (stands_at w t at) refl (λ n. inside_in k w t n)
   where
-    go : (s : Stands) → item_stands w t at ≡ s → ((n : ℕ) → AllInside (length t) (items_placed (items_in k w t n)))
+    go : (s : Stands) → stands_at w t at ≡ s → ((n : ℕ) → AllInside (length t) (items_placed (items_in k w t n)))
         → AllInside (length t) (items_placed (items_on at s (λ n. items_in k w t n)))
     go (Carries c n) e rest = let h = good-goes w t at e in (omega arith, omega arith, rest n)
     go Lacks e rest = let h = letter-goes w t at e in (omega arith, omega arith, rest (at + 1))
@@ -191,19 +184,19 @@ fewer (carries p c ∷ is) = omega (arith, fewer is)
 fewer (lacks p ∷ is) = omega (arith, fewer is)
 fewer (unfit p c ∷ is) = omega (arith, fewer is)
 
--- each command is written in a name and ten digits at most
-pub text-length : (cs : List Command) → all_in_range cs ≡ true → length (commands_text cs) ≤ 12 * length cs
+-- each command is written in a letter and ten digits at most
+pub text-length : (cs : List Command) → all_in_range cs ≡ true → length (commands_text cs) ≤ 11 * length cs
 unfolding commands_text all_in_range
 text-length [] h = omega arith
 text-length (c ∷ cs) h =
     let k = both (in_range c) (all_in_range cs) h in
-    omega (arith, length-append (spelled c) (commands_text cs), spelling-most c (spelled c) (spells_itself c k.0), name-most (name_in_lem (spelling_of c)), text-length cs k.1)
+    omega (arith, length-append (spelled c) (commands_text cs), spelling-most c (spelled c) (spells_itself c k.0), text-length cs k.1)
 
 most-few : (w : Way) → most_carried w ≤ 25
 most-few Inward = omega arith
 most-few Outward = omega arith
 
-pub text-most : (w : Way) (t : List ℕ) → (judged_for w (items_from w t 0)).refusal.place ≡ 0 → length (text_for w t) ≤ 300
+pub text-most : (w : Way) (t : List ℕ) → (judged_for w (items_from w t 0)).refusal.place ≡ 0 → length (text_for w t) ≤ 275
 unfolding refusal_of
 text-most w t h =
     let is : List Item = items_from w t 0 in

@@ -2,7 +2,7 @@
 use Prim.Native.Nat.{ℕ, zero, suc, ◌+◌, ◌-◌, ◌≤◌, ◌<◌}
 use mathlib.Core.Path.{◌≡◌, refl, sym, ◌∙◌}
 use mathlib.Core.List.{List, [], ◌∷◌}
-use mathlib.Core.Bool.{false, cond, ◌||◌, or_assoc, or_false}
+use mathlib.Core.Bool.{false, cond, ◌||◌, or_assoc, or-false}
 use native.Mathlib.Omega.{arith}
 use lib.ListN.{length}
 use lib.Dec.{eqb}
@@ -17,7 +17,7 @@ use Rattle.older.specs.declared.Stands.TheVariants.{Carries, Lacks, Unfit, Ends}
 use Rattle.older.specs.declared.Judgement.{Judgement}
 use Rattle.older.specs.declared.Sight.{Sight}
 use Rattle.older.specs.Older.{sets_ramp}
-use Rattle.older.specs.Items.{stand_in, item_stands, Item, carries, lacks, unfit, items_from, letter_places, operand_places, items_placed, places_past, soonest, refusal_of, carried_commands, any_ramp, judged_for}
+use Rattle.older.specs.Items.{stand_in, stands_at, Item, carries, lacks, unfit, items_from, letter_places, operand_places, items_placed, places_past, soonest, refusal_of, carried_commands, any_ramp, judged_for}
 use Rattle.older.specs.Pass.{first_sight, seen_good, seen_letter, seen_operand, sight_told}
 use Rattle.older.proofs.ItemLaws.{good-goes, letter-goes, unfit-goes, items_law}
 
@@ -75,8 +75,8 @@ module _ {w : Way} {t : List ℕ} {s : Sight} {at : ℕ} (j : Passing w t s at) 
   held_on : (c : Command) (n : ℕ) → at < n → Held (see_of s.scan (at + 1) c) (opened j.begun (at + 1) c) (n + 1)
   held_on c n l = rw (see_held c j.held (omega arith)) (held_next c j.held (omega arith) (omega arith))
 
-  pub pass-good : {c : Command} {n : ℕ} → item_stands w t at ≡ Carries c n → Passing w t (seen_good s (at + 1) c) n
-  pass-good {c} {n} e =
+  pub pass_good : {c : Command} {n : ℕ} → stands_at w t at ≡ Carries c n → Passing w t (seen_good s (at + 1) c) n
+  pass_good {c} {n} e =
       let g = good-goes w t at e in
       record {
         begun = opened j.begun (at + 1) c;
@@ -85,8 +85,8 @@ module _ {w : Way} {t : List ℕ} {s : Sight} {at : ℕ} (j : Passing w t s at) 
         inside = g.1;
       }
 
-  pub pass-letter : item_stands w t at ≡ Lacks → Passing w t (seen_letter s (at + 1)) (at + 1)
-  pass-letter e =
+  pub pass_letter : stands_at w t at ≡ Lacks → Passing w t (seen_letter s (at + 1)) (at + 1)
+  pass_letter e =
       let g = letter-goes w t at e in
       record {
         begun = opened j.begun (at + 1) (stand_in 0);
@@ -95,8 +95,8 @@ module _ {w : Way} {t : List ℕ} {s : Sight} {at : ℕ} (j : Passing w t s at) 
         inside = omega arith;
       }
 
-  pub pass-operand : {c : Command} {n : ℕ} → item_stands w t at ≡ Unfit c n → Passing w t (seen_operand s (at + 1) c) n
-  pass-operand {c} {n} e =
+  pub pass_operand : {c : Command} {n : ℕ} → stands_at w t at ≡ Unfit c n → Passing w t (seen_operand s (at + 1) c) n
+  pass_operand {c} {n} e =
       let g = unfit-goes w t at e in
       record {
         begun = opened j.begun (at + 1) c;
@@ -105,9 +105,9 @@ module _ {w : Way} {t : List ℕ} {s : Sight} {at : ℕ} (j : Passing w t s at) 
         inside = g.1;
       }
 
-  pub pass-end : item_stands w t at ≡ Ends → sight_told s ≡ judged_for w (items_from w t 0)
+  pub pass_end : stands_at w t at ≡ Ends → sight_told s ≡ judged_for w (items_from w t 0)
   unfolding letter_places operand_places items_placed places_past carried_commands any_ramp leftmost
-  pass-end e =
+  pass_end e =
       sym
       (j.same
-      ∙ rw (items_law w t at, e, left-zero s.letter, left-zero s.operand, left_end s.scan j.begun j.held.out, left-zero s.late, or_false s.slowed))
+      ∙ rw (items_law w t at, e, left-zero s.letter, left-zero s.operand, left_end s.scan j.begun j.held.out, left-zero s.late, or-false s.slowed))

@@ -20,14 +20,14 @@ use Rattle.commands.proofs.ReadingLaws.{read_end}
 use Rattle.lines.specs.Texts.{Reading, commands, faulty, Placed, unplaced, these, bare, bare_from, reading_from, skippable, structured, storable, fault_places, stored_places, leftmost, stored_by, text_good_by, text_good}
 use Rattle.lines.specs.Lists.{commands_text, all_in_range}
 use Rattle.lines.proofs.PlaceLaws.{Inside, AllInside, places-inside, leftmost-some, places-none, stored-none, none-nil, nil-none, nowhere}
-use Rattle.lines.proofs.TextLaws.{before_bare, bare-end, bare-at}
+use Rattle.lines.proofs.TextLaws.{before_bare, bare-end, bare_at}
 use Rattle.lines.proofs.PieceLaws.{written_pieces, pieces_read}
 use Rattle.older.specs.declared.Way.{Way}
 use Rattle.older.specs.declared.Way.TheVariants.{Inward}
 use Rattle.older.specs.declared.Stands.{Stands}
 use Rattle.older.specs.declared.Stands.TheVariants.{Carries, Lacks, Unfit, Ends}
 use Rattle.older.specs.Older.{both_have, older_takes, sets_ramp, number_of, slower, becomes}
-use Rattle.older.specs.Items.{stand_in, stands_read, item_stands, Item, carries, lacks, unfit, items_on, items_in, items_from, letter_places, operand_places, items_placed, most_carried, places_past, refusal_of, carried_commands, any_ramp, judged_for, text_for}
+use Rattle.older.specs.Items.{stand_in, stands_read, stands_at, Item, carries, lacks, unfit, items_on, items_in, items_from, letter_places, operand_places, items_placed, most_carried, places_past, refusal_of, carried_commands, any_ramp, judged_for, text_for}
 use Rattle.older.specs.Examples.{gives, refuses, outcome}
 use Rattle.older.specs.Claims.{SomeRamp, here, later, all_taken, Passed, other}
 use Rattle.older.proofs.CarryLaws.{becomes-same}
@@ -64,8 +64,8 @@ all_carry (unfit p c ∷ is) l o = let z : ◌≡◌ {A = ℕ} 0 1 = cc in absur
 
 -- ---- and reads
 
-pub ends_read : (w : Way) (t : List ℕ) (at : ℕ) → item_stands w t at ≡ Ends → read_at t at ≡ End
-unfolding item_stands
+pub ends_read : (w : Way) (t : List ℕ) (at : ℕ) → stands_at w t at ≡ Ends → read_at t at ≡ End
+unfolding stands_at
 ends_read w t at e = go (ltb at (length t)) (both_have (get_or t at 0)) (read_at t at) refl refl e
   where
     taken : (c : Command) (next : ℕ) (x : Bool) → cond x (Carries (becomes w c) next) (Unfit (stand_in (get_or t at 0)) next) ≡ Ends → At c next ≡ End
@@ -89,9 +89,9 @@ all_read : (k : ℕ) (w : Way) (t : List ℕ) (at : ℕ) → length t ≤ at + k
     → AllRead w t at (carried_commands (items_in k w t at))
 unfolding items_in letter_places operand_places carried_commands all_taken
 all_read zero w t at m l o = record { commands = []; reads = bare-end t at (read_end t at (omega arith)); taken = refl; are = refl }
-all_read (suc k) w t at m l o = go (item_stands w t at) refl l o (λ n p q r. all_read k w t n p q r)
+all_read (suc k) w t at m l o = go (stands_at w t at) refl l o (λ n p q r. all_read k w t n p q r)
   where
-    go : (s : Stands) → item_stands w t at ≡ s → letter_places (items_on at s (λ n. items_in k w t n)) ≡ [] → operand_places (items_on at s (λ n. items_in k w t n)) ≡ []
+    go : (s : Stands) → stands_at w t at ≡ s → letter_places (items_on at s (λ n. items_in k w t n)) ≡ [] → operand_places (items_on at s (λ n. items_in k w t n)) ≡ []
         → ((n : ℕ) → length t ≤ n + k → letter_places (items_in k w t n) ≡ [] → operand_places (items_in k w t n) ≡ [] → AllRead w t n (carried_commands (items_in k w t n)))
         → AllRead w t at (carried_commands (items_on at s (λ n. items_in k w t n)))
     go (Carries d n) e p q rest =
@@ -100,7 +100,7 @@ all_read (suc k) w t at m l o = go (item_stands w t at) refl l o (λ n p q r. al
         let y = rest n (omega arith) p q in
         record {
           commands = x.command ∷ y.commands;
-          reads = bare-at t at x.reads ∙ ap (before_bare x.command) y.reads;
+          reads = bare_at t at x.reads ∙ ap (before_bare x.command) y.reads;
           taken = rw x.takes y.taken;
           are = ap (λ (ds : List Command). d ∷ ds) y.are ∙ ap (λ (c : Command). c ∷ map (becomes w) y.commands) x.is;
         }
@@ -227,12 +227,12 @@ pub passes : (w : Way) (t r : List ℕ) (slowed : Bool) → outcome w t ≡ give
 passes w t r slowed e = (over w t r slowed e).main
 
 -- what is written reads back
-reads-back : (cs : List Command) → all_in_range cs ≡ true → bare_from (commands_text cs) 0 ≡ these cs
-reads-back cs h = pieces_read (written_pieces cs) (commands_text cs) 0 refl ∙ rw h
+reads_back : (cs : List Command) → all_in_range cs ≡ true → bare_from (commands_text cs) 0 ≡ these cs
+reads_back cs h = pieces_read (written_pieces cs) (commands_text cs) 0 refl ∙ rw h
 
 -- the text that goes over reads as the commands that it was made of
 pub over_reads : {w : Way} {t r : List ℕ} {slowed : Bool} (o : Over w t r slowed) → bare_from r 0 ≡ these (map (becomes w) o.main.commands)
-over_reads o = rw o.main.text (reads-back _ o.ranged)
+over_reads o = rw o.main.text (reads_back _ o.ranged)
 
 pub these-same : (cs ds : List Command) → these cs ≡ these ds → cs ≡ ds
 these-same cs ds e = cc

@@ -33,18 +33,18 @@ module _ (w : Way) (t buffer : List ℕ) (j : Judgement) (e : j ≡ judged_for w
   refused h = rw e (translated_is w t buffer (rw (ne_eqb (judged_for w (items_from w t 0)).refusal.place 0 (rw e at h))) refl)
 
   module _ (h : j.refusal.place ≡ 0) where
-    short : length (text_for w t) ≤ 300
+    short : length (text_for w t) ≤ 275
     short = text-most w t (rw e at h)
 
-    pub too_short : {line after : List ℕ} → AddedIs (replicate 300 0) 0 (text_for w t) NoRoom line → TranslatedIs w t buffer Translated.NoRoom after
-    too_short a = absurd (omega (arith, too_long a, length-replicate {A = ℕ} 300 0, short))
+    pub too_short : {line after : List ℕ} → AddedIs (replicate 275 0) 0 (text_for w t) NoRoom line → TranslatedIs w t buffer Translated.NoRoom after
+    too_short a = absurd (omega (arith, too_long a, length-replicate {A = ℕ} 275 0, short))
 
     passed : {b : Bool} → fits_at buffer 0 (length (text_for w t)) ≡ b
         → translated_of w t buffer ≡ cond b (Translated.Text (length (text_for w t)) j.slowed) Translated.NoRoom
     unfolding translated_of
     passed f = rw (e, eq_eqb (judged_for w (items_from w t 0)).refusal.place 0 (rw e at h), f)
 
-    module _ {n : ℕ} {line : List ℕ} (a : AddedIs (replicate 300 0) 0 (text_for w t) (Past n) line) where
+    module _ {n : ℕ} {line : List ℕ} (a : AddedIs (replicate 275 0) 0 (text_for w t) (Past n) line) where
       pub put : {after : List ℕ} → PutIs buffer 0 (take (n - 0) line) true after → TranslatedIs w t buffer (Translated.Text n j.slowed) after
       put p =
           let q = rw (at_front a).1 at p in

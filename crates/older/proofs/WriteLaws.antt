@@ -15,7 +15,7 @@ use Rattle.host.specs.Adding.{AddedIs}
 use Rattle.host.proofs.AddLaws.{fits, written-added, nothing-added, added_more, added_none}
 use Rattle.older.specs.declared.Way.{Way}
 use Rattle.older.specs.declared.Stands.TheVariants.{Carries, Lacks, Unfit, Ends}
-use Rattle.older.specs.Items.{item_stands, items_from, carried_commands, text_for}
+use Rattle.older.specs.Items.{stands_at, items_from, carried_commands, text_for}
 use Rattle.older.proofs.ItemLaws.{good-goes, letter-goes, unfit-goes, items_law}
 
 -- no byte comes or goes
@@ -43,27 +43,27 @@ pub writing : (w : Way) (t line : List ℕ) → Writing w t line 0 0 line
 writing w t line = record { done = []; same = refl; added = nothing-added line 0 (omega arith); inside = omega arith }
 
 module _ {w : Way} {t line₀ : List ℕ} {at end : ℕ} {line : List ℕ} (j : Writing w t line₀ at end line) where
-  one_left : {c : Command} {n : ℕ} → item_stands w t at ≡ Carries c n → text_for w t ≡ (j.done ++ spelled c) ++ left w t n
+  one_left : {c : Command} {n : ℕ} → stands_at w t at ≡ Carries c n → text_for w t ≡ (j.done ++ spelled c) ++ left w t n
   unfolding carried_commands commands_text
   one_left {c} {n} e = j.same ∙ rw (items_law w t at, e) (sym (append_assoc j.done (spelled c) (left w t n)))
 
-  pub write_on : {c : Command} {n past : ℕ} {after : List ℕ} → item_stands w t at ≡ Carries c n → WrittenIs line end (spelled c) (Past past) after → Writing w t line₀ n past after
+  pub write_on : {c : Command} {n past : ℕ} {after : List ℕ} → stands_at w t at ≡ Carries c n → WrittenIs line end (spelled c) (Past past) after → Writing w t line₀ n past after
   write_on {c} {n} e h = let g = good-goes w t at e in
       record { done = j.done ++ spelled c; same = one_left e; added = added_more j.added (written-added h); inside = g.1 }
 
-  pub write_full : {c : Command} {n : ℕ} {after : List ℕ} → item_stands w t at ≡ Carries c n → WrittenIs line end (spelled c) NoRoom after → AddedIs line₀ 0 (text_for w t) NoRoom after
+  pub write_full : {c : Command} {n : ℕ} {after : List ℕ} → stands_at w t at ≡ Carries c n → WrittenIs line end (spelled c) NoRoom after → AddedIs line₀ 0 (text_for w t) NoRoom after
   write_full {c} {n} {after} e h = rw (one_left e) (added_none (left w t n) after (added_more j.added (written-added h)))
 
-  pub write_letter : item_stands w t at ≡ Lacks → Writing w t line₀ (at + 1) end line
+  pub write_letter : stands_at w t at ≡ Lacks → Writing w t line₀ (at + 1) end line
   unfolding carried_commands
   write_letter e = let g = letter-goes w t at e in
       record { done = j.done; same = j.same ∙ rw (items_law w t at, e); added = j.added; inside = omega arith }
 
-  pub write_unfit : {c : Command} {n : ℕ} → item_stands w t at ≡ Unfit c n → Writing w t line₀ n end line
+  pub write_unfit : {c : Command} {n : ℕ} → stands_at w t at ≡ Unfit c n → Writing w t line₀ n end line
   unfolding carried_commands
   write_unfit e = let g = unfit-goes w t at e in
       record { done = j.done; same = j.same ∙ rw (items_law w t at, e); added = j.added; inside = g.1 }
 
-  pub write_end : item_stands w t at ≡ Ends → AddedIs line₀ 0 (text_for w t) (Past end) line
+  pub write_end : stands_at w t at ≡ Ends → AddedIs line₀ 0 (text_for w t) (Past end) line
   unfolding carried_commands commands_text
   write_end e = let whole : text_for w t ≡ j.done = j.same ∙ rw (items_law w t at, e) (append-nil j.done) in rw whole j.added

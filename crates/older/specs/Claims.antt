@@ -54,7 +54,7 @@ pub record OlderClaims : Type 0 where
   pub slowed_out : (y : ℕ) → 2 ≤ y → y ≤ 25 → SlowedOut y (slower Outward y)
   -- what passes, and nothing else does
   pub passes : (w : Way) (t r : List ℕ) (slowed : Bool) → outcome w t ≡ gives r slowed → Passed w t r slowed
-  pub passes-back : (w : Way) (t r : List ℕ) (slowed : Bool) → Passed w t r slowed → outcome w t ≡ gives r slowed
+  pub passes_back : (w : Way) (t r : List ℕ) (slowed : Bool) → Passed w t r slowed → outcome w t ≡ gives r slowed
   -- "A text without `L` that passes both ways returns the same commands": its text comes back as it went over, and reads as the first one
   pub both_ways : (w : Way) (t r back : List ℕ) (slowed : Bool) → outcome w t ≡ gives r false → outcome (other w) r ≡ gives back slowed
       → (back ≡ r) × (slowed ≡ false) × (bare_from back 0 ≡ bare_from t 0)

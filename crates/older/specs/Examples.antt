@@ -70,15 +70,6 @@ older_examples =
     ∷ stays_out Inward "x" BadLetter 1
     ∷ stays_out Inward "A5R" BadLetter 3
     ∷ stays_out Inward "g5G2" BadLetter 2
-    -- 02, E11: the older drive lacks `aC`, `aE`, `au` and `r`, and `n` keeps what both ranges have
-    ∷ stays_out Outward "aC5" BadLetter 1
-    ∷ stays_out Outward "P1aE1000" BadLetter 3
-    ∷ stays_out Inward "gau5G2" BadLetter 2
-    ∷ stays_out Outward "aC0" BadLetter 1
-    ∷ stays_out Inward "P1a" BadLetter 3
-    ∷ stays_out Outward "r" BadLetter 1
-    ∷ goes_as Inward "n15" "n15" false
-    ∷ stays_out Inward "n16" BadOperand 1
     -- "leftmost first": a fault further to the right is not told
     ∷ stays_out Inward "gP1" BadStructure 1
     ∷ stays_out Inward "gx" BadStructure 1

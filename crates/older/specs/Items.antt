@@ -44,8 +44,8 @@ stands_read w t at (Bad code place) = Unfit (stand_in (get_or t at 0)) (past_ope
 stands_read w t at End = Ends
 
 -- "a letter that the other side lacks", whatever stands behind it
-unfoldable pub item_stands : Way → List ℕ → ℕ → Stands
-item_stands w t at = cond (ltb at (length t)) (cond (both_have (get_or t at 0)) (stands_read w t at (read_at t at)) Lacks) Ends
+unfoldable pub stands_at : Way → List ℕ → ℕ → Stands
+stands_at w t at = cond (ltb at (length t)) (cond (both_have (get_or t at 0)) (stands_read w t at (read_at t at)) Lacks) Ends
 
 -- ---- the whole text, read past its faults
 
@@ -64,7 +64,7 @@ items_on at Ends rest = []
 -- in at most so many items; each is a byte long at least, so the text's length is enough
 unfoldable pub items_in : ℕ → Way → List ℕ → ℕ → List Item
 items_in zero w t at = []
-items_in (suc k) w t at = items_on at (item_stands w t at) (λ next. items_in k w t next)
+items_in (suc k) w t at = items_on at (stands_at w t at) (λ next. items_in k w t next)
 
 unfoldable pub items_from : Way → List ℕ → ℕ → List Item
 items_from w t at = items_in (length t) w t at

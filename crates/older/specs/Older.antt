@@ -9,9 +9,9 @@ use Rattle.commands.specs.declared.Asks.TheVariants.{Unknown, Nothing, Required,
 use Rattle.commands.specs.declared.Range.TheVariants.{From, Input}
 use Rattle.commands.specs.declared.Spelling.{Spelling}
 use Rattle.commands.specs.declared.Spelling.TheVariants.{Alone, WithNumber, WithTwoDigits}
-use Rattle.commands.specs.Table.{top, one, from, one_of, asks_of}
+use Rattle.commands.specs.Table.{from, one_of, asks_of}
 use Rattle.commands.specs.Fitting.{numbered_as}
-use Rattle.commands.specs.Writing.{spelling_of, name_in_lem, permits}
+use Rattle.commands.specs.Writing.{spelling_of, permits}
 use Rattle.older.specs.declared.Way.{Way}
 use Rattle.older.specs.declared.Way.TheVariants.{Inward, Outward}
 
@@ -23,7 +23,7 @@ pub record OlderRow : Type 0 where
 abbrev pub older_row : Text.String → Asks → OlderRow
 older_row ls a = record { letters = bytes ls; operand = a }
 
--- 004, "Command Set", as its HR drives have it, for the letters that ours has; `M` and `B` have no row there, so their range is ours
+-- 004, "Command Set", as its HR drives have it, for the letters that ours has; `M` stands in 004's examples alone, so its range is ours
 unfoldable pub older_table : List OlderRow
 older_table =
     older_row "APDzZ" (from 0 4294967296)
@@ -36,8 +36,6 @@ older_table =
     ∷ older_row "j" (from 2 256)
     ∷ older_row "o" (from 0 250)
     ∷ older_row "J" (from 0 3)
-    ∷ older_row "n" (from 0 2047)
-    ∷ older_row "B" (from 0 top)
     ∷ older_row "M" (from 0 30000)
     ∷ older_row "g" Nothing
     ∷ older_row "G" (OrElse (From 0 30000) 0)
@@ -59,13 +57,15 @@ has_row Nothing = true
 has_row (Required r) = true
 has_row (OrElse r m) = true
 
--- "a letter that the other side lacks": of whichever side; 02, E11: `a`, which begins a name of two, is one that it lacks
+-- "a letter that the other side lacks": of whichever side
 unfoldable pub both_have : ℕ → Bool
-both_have l = has_row (older_asks l) && has_row (asks_of (one l))
+both_have l = has_row (older_asks l) && has_row (asks_of l)
 
--- the first letter and the number of a spelling
+-- the letter and the number of a spelling
 abbrev pub letter_of : Spelling → ℕ
-letter_of sp = (name_in_lem sp).letter
+letter_of (Alone l) = l
+letter_of (WithNumber l n) = l
+letter_of (WithTwoDigits l n) = l
 
 abbrev pub number_of : Spelling → ℕ
 number_of (Alone l) = 0

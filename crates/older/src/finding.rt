@@ -2,10 +2,10 @@
 ghost use Rattle.std.specs.Prelude.{◌≡◌, true, cond, ◌&&◌, leb, eqb, ◌≤◌};
 ghost use Rattle.parts.specs.Letters.{byte};
 ghost use Rattle.digits.specs.Operand.{operand_at};
-ghost use Rattle.commands.specs.Table.{setting_name};
+ghost use Rattle.commands.specs.Table.{setting_letter};
 ghost use Rattle.commands.specs.Writing.{in_range};
 ghost use Rattle.older.specs.Older.{both_have, sets_ramp, older_takes, becomes};
-ghost use Rattle.older.specs.Items.{stand_in, past_operand, item_stands};
+ghost use Rattle.older.specs.Items.{stand_in, past_operand, stands_at};
 ghost use Rattle.older.specs.Pass.{carried_of};
 
 use crate::{Carried, Stands, Way};
@@ -14,7 +14,7 @@ use digits::Operand;
 
 // What stands at a place of a text.
 pub(crate) fn stands_at(way: Way, text: &[u8], at: usize) -> Stands
-    ensures { result ≡ item_stands way text.now at }
+    ensures { result ≡ stands_at way text.now at }
 {
     if text.len() <= at {
         return Stands::Ends;
@@ -60,8 +60,6 @@ fn both_have(letter: u8) -> bool
         b'j' => true,
         b'o' => true,
         b'J' => true,
-        b'n' => true,
-        b'B' => true,
         b'M' => true,
         b'g' => true,
         b'G' => true,
@@ -105,24 +103,13 @@ fn carry(way: Way, c: Command) -> Carried
     let Command::Plain(a) = c else {
         return Carried::Fit(c);
     };
-    let Act::Recover = a else {
-        return carry_act(way, a);
-    };
-    Carried::NoFit
-}
-
-// A plain command but `r`, which the older drive lacks.
-fn carry_act(way: Way, a: Act) -> Carried
-    requires { (in_range (Command.Plain a) ≡ true) × (a ≡ Act.Recover → ⊥) }
-    ensures { result ≡ carried_of way (Command.Plain a) }
-{
     let Act::Set(which, n) = a else {
-        return Carried::Fit(Command::Plain(a));
+        return Carried::Fit(c);
     };
     carry_setting(way, which, n)
 }
 
-// A setting: the older drive has other speeds and no step size of 1; no correction is in both ranges; it has no `F`, no `b` and no encoder.
+// A setting: the older drive has other speeds and no step size of 1; no correction is in both ranges; it has no `F` and no `b`.
 fn carry_setting(way: Way, which: Setting, n: u32) -> Carried
     requires { in_range (Command.Plain (Act.Set which n)) ≡ true }
     ensures { result ≡ carried_of way (Command.Plain (Act.Set which n)) }
@@ -138,11 +125,6 @@ fn carry_setting(way: Way, which: Setting, n: u32) -> Carried
         Setting::Correction => Carried::NoFit,
         Setting::Outputs => fit(which, n),
         Setting::Baud => Carried::NoFit,
-        Setting::Mode => fit(which, n),
-        Setting::Distance => fit(which, n),
-        Setting::Allowed => Carried::NoFit,
-        Setting::Ratio => Carried::NoFit,
-        Setting::Tries => Carried::NoFit,
     }
 }
 
@@ -195,8 +177,18 @@ pub(crate) fn is_ramp(c: Command) -> bool
 
 // Whether a setting is the acceleration.
 fn is_acceleration(which: Setting) -> bool
-    ensures { result ≡ eqb (setting_name which).letter (byte "L") }
+    ensures { result ≡ eqb (setting_letter which) (byte "L") }
 {
-    let name = commands::name_of(which);
-    name.letter == b'L'
+    match which {
+        Setting::TopSpeed => false,
+        Setting::Acceleration => true,
+        Setting::FlagLevel => false,
+        Setting::Turned => false,
+        Setting::MoveCurrent => false,
+        Setting::HoldCurrent => false,
+        Setting::StepSize => false,
+        Setting::Correction => false,
+        Setting::Outputs => false,
+        Setting::Baud => false,
+    }
 }

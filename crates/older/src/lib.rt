@@ -87,8 +87,8 @@ struct Judgement {
     slowed: bool,
 }
 
-// 25 commands of a name and ten digits.
-const TEXT_MOST: usize = 300;
+// 25 commands of a letter and ten digits.
+const TEXT_MOST: usize = 275;
 
 // Reads a text of the older drive into ours, at the front of a buffer.
 pub fn into_ours(text: &[u8], buffer: &mut [u8]) -> Translated

@@ -238,7 +238,7 @@ fn turn_times(p: Paced, steps: u32, times: u32, text: &mut [u8; TEXT_BYTES], ima
     let mut sum = p.sum;
     let mut number: u32 = 0;
     for i in 0..times {
-        let turned = drive::turn(u, text, (i % 16) as u8, 1, least(steps, number), 0, image);
+        let turned = drive::turn(u, text, (i % 16) as u8, 1, least(steps, number), image);
         u = turned.unit;
         let action = turned.action;
         number = action.number;

@@ -25,10 +25,10 @@ rest-of-part n k l h g =
     sym (drop-append-le n (take k l) (drop k l) e) ∙ ap (λ (r : List ℕ). drop n r) (take-append-drop k l)
 
 -- a part of k from a was lent, and came back with ys at its front: ys was put at a
-pub back-front : (xs : List ℕ) (a k : ℕ) (ys : List ℕ) → a + k ≤ length xs → length ys ≤ k
+pub back_front : (xs : List ℕ) (a k : ℕ) (ys : List ℕ) → a + k ≤ length xs → length ys ≤ k
     → put_mid a k xs (take (length ys) ys ++ drop (length ys) (take k (drop a xs))) ≡ put xs a ys
 unfolding put
-back-front xs a k ys h g =
+back_front xs a k ys h g =
     let e : k ≤ length (drop a xs) = simp length-drop (omega arith) in
     rw (take-length ys, append_assoc ys, rest-of-part (length ys) k (drop a xs) g e, drop-drop)
 
@@ -68,9 +68,9 @@ module _ (xs : List ℕ) (a : ℕ) (ys : List ℕ) (h : a ≤ length xs) where
   drop-put-more n = sym (drop-drop n (a + length ys) (put xs a ys)) ∙ ap (λ (l : List ℕ). drop n l) drop-put ∙ drop-drop n (a + length ys) xs
 
   -- from its place on: what was written, then what stood behind it
-  pub drop-put-at : drop a (put xs a ys) ≡ ys ++ drop (a + length ys) xs
+  pub drop-put_at : drop a (put xs a ys) ≡ ys ++ drop (a + length ys) xs
   unfolding put
-  drop-put-at = drop_at (take a xs) _ a (length-take-le a xs h)
+  drop-put_at = drop_at (take a xs) _ a (length-take-le a xs h)
 
   -- written in two goes, one behind the other
   pub put-more : (b : ℕ) (zs : List ℕ) → b ≡ a + length ys → put (put xs a ys) b zs ≡ put xs a (ys ++ zs)
@@ -82,7 +82,7 @@ module _ (xs : List ℕ) (a : ℕ) (ys : List ℕ) (h : a ≤ length xs) where
   -- what was written, read back; and what was not
   pub part-put : (n : ℕ) → length ys ≡ n → part (put xs a ys) a n ≡ ys
   unfolding part
-  part-put n e = rw (drop-put-at) (take_at ys _ n e)
+  part-put n e = rw (drop-put_at) (take_at ys _ n e)
 
   pub part-put-below : (b n : ℕ) → b + n ≤ a → part (put xs a ys) b n ≡ part xs b n
   unfolding part put
@@ -131,8 +131,8 @@ length-put_in xs a ys =
 pub is_put : (dst : List ℕ) (at : ℕ) (src : List ℕ) {after : List ℕ} → at + length src ≤ length dst → after ≡ put dst at src → PutIs dst at src true after
 is_put dst at src h e = record { answers = sym (le-leb _ _ h); leaves = e ∙ sym (put_in_room dst at src h) }
 
-pub is_full_lem : (dst : List ℕ) (at : ℕ) (src : List ℕ) → length dst < at + length src → PutIs dst at src false dst
-is_full_lem dst at src h = record { answers = sym (lt-leb _ _ h); leaves = sym (put_in_full dst at src h) }
+pub is_full : (dst : List ℕ) (at : ℕ) (src : List ℕ) → length dst < at + length src → PutIs dst at src false dst
+is_full dst at src h = record { answers = sym (lt-leb _ _ h); leaves = sym (put_in_full dst at src h) }
 
 -- no second answer meets it
 pub put_once : {dst : List ℕ} {at : ℕ} {src : List ℕ} {r s : Bool} {x y : List ℕ} → PutIs dst at src r x → PutIs dst at src s y → (r ≡ s) × (x ≡ y)

@@ -32,8 +32,8 @@ div_is f (fin false m e) (fin false n d) p q = go (eqb n 0) (not-zero n (ltb→l
     go false h = refl
 
 -- of two floats that equal a / c and b / d: a d / (b c)
-pub div-at : (f : Format) (x y : Float) (a c b d : ℕ) → T (positive x) → T (positive y) → 0 < b → 0 < c → HasValue x false a c → HasValue y false b d → div f x y ≡ round f false (a * d) (b * c)
-div-at f x y a c b d p q B C h k =
+pub div_at : (f : Format) (x y : Float) (a c b d : ℕ) → T (positive x) → T (positive y) → 0 < b → 0 < c → HasValue x false a c → HasValue y false b d → div f x y ≡ round f false (a * d) (b * c)
+div_at f x y a c b d p q B C h k =
     div_is f x y p q
     ∙ round_same f false (num x * den y) (num y * den x) (a * d) (b * c) (mul-pos (value_pos y (num y) (den y) q (den_pos y) (own_value y q)) (den_pos x)) (mul-pos B C)
     (simp (mul_assoc, mul_comm, mul_left_comm)

@@ -14,7 +14,7 @@ use lib.Ieee.Positive.{positive, positive_of_value, between, mul_at}
 use Rattle.ramp.specs.Ranges.{top_v, top_l, Within}
 use Rattle.ramp.specs.Peak.{double_unit}
 use Rattle.ramp.specs.Ramp.{unit, speed_of, acceleration_of, time_of}
-use Rattle.ramp.proofs.Division.{div-at}
+use Rattle.ramp.proofs.Division.{div_at}
 
 whole-exact : (n : ℕ) → n < 2 ^ 53 → HasValue (round binary64 false n 1) false n 1
 whole-exact n h = round_exact binary64 false n 1 n 1074 (lit< tt) h (lt_of_lt_of_le (shl_lt 53 1074 h) (lit≤ tt)) (sym (mul-one _))
@@ -51,7 +51,7 @@ module _ (p l : ℕ) (p-within : Within 1 top_v p) (l-within : Within 1 top_l l)
   time_once =
       let s = speed-exact p p-within.1 in
       let a = acceleration-exact l l-within in
-      div-at binary64 (speed_of p) (acceleration_of l) p 1 (double_unit * l) 2 (positive_of_value (speed_of p) p 1 s p-within.0) (positive_of_value (acceleration_of l) (double_unit * l) 2 a (omega arith)) (omega arith) (lit< tt) s a
+      div_at binary64 (speed_of p) (acceleration_of l) p 1 (double_unit * l) 2 (positive_of_value (speed_of p) p 1 s p-within.0) (positive_of_value (acceleration_of l) (double_unit * l) 2 a (omega arith)) (omega arith) (lit< tt) s a
       ∙ ap (λ (z : ℕ). round binary64 false z (double_unit * l * 1)) (mul_comm p 2)
       ∙ ap (λ (z : ℕ). round binary64 false (2 * p) z) (mul-one (double_unit * l))
 

@@ -12,7 +12,7 @@ use Rattle.turns.specs.Ends.{Strays, bad_read, too_deep, none_open, skips-bad, s
 use Rattle.drive.specs.Unit.{Drive}
 use Rattle.runs.specs.Reach.{text_of}
 use Rattle.runs.specs.Claims.{CountedWhole, FewOpen, InRange, NeverAstray}
-use Rattle.runs.proofs.SoundLaws.{SoundUnit, counts_range}
+use Rattle.runs.proofs.SoundLaws.{SoundUnit}
 
 -- what is counted is counted whole where there is room for it
 counted-whole : (up : Bool) (p steps : ℕ) → steps ≤ room up p → CountedWhole up p steps (counted up p steps)
@@ -42,11 +42,10 @@ module _ (u : Drive) (h : SoundUnit u) where
     few_digits_lem = checked-few (text_of u) h.flow.checked;
     stands = h.flow.place;
     exactly = exactly h.flow;
-    at-most-four = few_open;
+    at_most-four = few_open;
     in-range = in-range;
-    counts_in_range = counts_range h;
-    counted-whole = λ sample steps count c l. rw c (counted-whole u.core.motor.last.up u.core.motor.position steps (nothing-cut h.motor c l));
-    not-counted = λ sample steps count c. rw c;
+    counted-whole = λ sample steps c l. rw c (counted-whole u.core.motor.last.up u.core.motor.position steps (nothing-cut h.motor c l));
+    not-counted = λ sample steps c. rw c;
     code_0 = h.code_0;
     not-astray = not-astray;
   }

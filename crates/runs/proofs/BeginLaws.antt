@@ -3,13 +3,11 @@ use Prim.Native.Nat.{ℕ}
 use mathlib.Core.Path.{◌≡◌, refl, sym, ap, subst, ◌∙◌}
 use mathlib.Core.List.{List}
 use mathlib.Core.Bool.{Bool, true, false, false≢true}
-use lib.IntN.{ℤ}
 use lib.ListN.{length, take}
 use lib.Dec.{ltb}
-use Rattle.parts.specs.Parts.{most_bytes}
 use Rattle.parts.proofs.Laws.{cases}
 use Rattle.commands.specs.declared.Command.TheVariants.{Jump}
-use Rattle.image.specs.Image.{right_length, image_by, slot_good, slot_text}
+use Rattle.image.specs.Image.{right_length, slots, slots_older, slot_good, slot_text}
 use Rattle.image.proofs.HeldLaws.{text-fits}
 use Rattle.frames.specs.Addresses.{is_unit}
 use Rattle.flow.specs.Flow.{begun}
@@ -24,7 +22,7 @@ use Rattle.obeying.specs.Deeds.{Obeys, refuses, tells, stores, clears, stops, re
 use Rattle.drive.specs.Calls.{Starting, begun_on, fresh_unit, no_unit, start_of, received_by, body_by, Turning}
 use Rattle.drive.proofs.FeedLaws.{frame-does}
 use Rattle.runs.specs.Reach.{Call, feed, turn, after, text_of}
-use Rattle.runs.proofs.SoundLaws.{text-kept}
+use Rattle.runs.proofs.SoundLaws.{text_kept}
 use Rattle.runs.proofs.CallLaws.{feed-cases, turn-cases}
 use Rattle.runs.proofs.CommandLaws.{turned}
 use Rattle.runs.specs.Ran.{TakesCommand, takes, Begins}
@@ -50,18 +48,18 @@ jumped-there : (i : ℕ) (text image : List ℕ) (c : Core) → Jumped (slot_tex
 unfolding jumped ended begun
 jumped-there i text image c =
     cases (Jumped (slot_text image i) text image) (slot_good image i)
-    (λ q. record { first = λ z. (refl, refl); there = λ z. text-kept (slot_text image i) (text-fits image i) })
+    (λ q. record { first = λ z. (refl, refl); there = λ z. text_kept (slot_text image i) (text-fits image i) })
     (λ q. record { first = λ z. absurd (false≢true z); there = λ z. absurd (false≢true z) })
 
 -- "`e` makes the slot's text the current text .. and begins it"
-pub enters : {i sample ms steps : ℕ} {count : ℤ} {image : List ℕ} (v : Drive) → v.core.running ≡ true
-    → TakesCommand v (Jump i) sample (turn sample ms steps count image) → Entered (slot_text image i) (after (turn sample ms steps count image) v)
+pub enters : {i sample ms steps : ℕ} {image : List ℕ} (v : Drive) → v.core.running ≡ true
+    → TakesCommand v (Jump i) sample (turn sample ms steps image) → Entered (slot_text image i) (after (turn sample ms steps image) v)
 unfolding command_taken
-enters {i} {sample} {ms} {steps} {count} {image} v h (takes n m r) =
-    let x = turned v h sample ms steps count image m (Jump i) n r in
+enters {i} {sample} {ms} {steps} {image} v h (takes n m r) =
+    let x = turned v h sample ms steps image m (Jump i) n r in
     let c = ap (λ (u : Drive). u.core) x in
     let e = ap (λ (u : Drive). u.text) x in
-    let j = jumped-there i v.text image (with_motor (reported sample steps count v.core.motor) v.core) in
+    let j = jumped-there i v.text image (with_motor (reported sample steps v.core.motor) v.core) in
     record {
       begins = λ g. let f = subst AtFirst (sym c) j.first g in record { running = g; first = f.0; none_open = f.1 };
       text = λ g. rw (c, e) (j.there (rw c at g));
@@ -83,18 +81,18 @@ obeys_first {c = c} h (loads run n r l) = cases AtFirst run (λ q. started-first
 
 -- ---- a call
 
-idle-stays : (sample ms steps : ℕ) (count : ℤ) (t image : List ℕ) (c : Core) → c.running ≡ false → (step_of sample ms steps count t image c).core.running ≡ false
+idle-stays : (sample ms steps : ℕ) (t image : List ℕ) (c : Core) → c.running ≡ false → (step_of sample ms steps t image c).core.running ≡ false
 unfolding step_of
-idle-stays sample ms steps count t image c h =
+idle-stays sample ms steps t image c h =
     cases (λ (s : Stepped). s.core.running ≡ false) c.running (λ r. absurd (false≢true (sym h ∙ r))) (λ r. h)
 
 first-after : (u : Drive) (c : Call) → u.core.running ≡ false → AtFirst (after c u).core
 unfolding turn_core
 first-after u (feed bytes image buffer) h =
-    feed-cases u bytes image buffer (λ (text : List ℕ) (c : Core). AtFirst c) (stopped-first u.core h) (λ d. obeys_first h (frame-does (received_by u bytes).frame (body_by u bytes) image u.core))
-first-after u (turn sample ms steps count image) h =
-    turn-cases u sample ms steps count image (λ (r : Turning). AtFirst r.unit.core) (λ a. stopped-first u.core h)
-    (λ m z. absurd (false≢true (sym (idle-stays sample ms steps count (text_of u) image u.core h) ∙ z)))
+    feed-cases u bytes image buffer (λ (text : List ℕ) (c : Core). AtFirst c) (stopped-first u.core h) (λ d. obeys_first h (frame-does (received_by u bytes).frame (body_by u bytes) u.core))
+first-after u (turn sample ms steps image) h =
+    turn-cases u sample ms steps image (λ (r : Turning). AtFirst r.unit.core) (λ a. stopped-first u.core h)
+    (λ m z. absurd (false≢true (sym (idle-stays sample ms steps (text_of u) image u.core h) ∙ z)))
 
 pub begins : (u : Drive) (c : Call) → u.core.running ≡ false → (after c u).core.running ≡ true → Begins (after c u)
 begins u c h g = let f = first-after u c h g in record { running = g; first = f.0; none_open = f.1 }
@@ -115,7 +113,7 @@ start_first : (number : ℕ) (image body text : List ℕ) → AtFirst (start_of 
 unfolding start_of fresh_unit no_unit
 start_first number image body text =
     cases P (is_unit number)
-    (λ q. cases P (right_length image) (λ r. cases P (image_by most_bytes image)
+    (λ q. cases P (right_length image) (λ r. cases P (slots_older image slots)
     (λ s. on-first (slot_good image 0) (length (slot_text image 0))) (λ s. fresh-first)) (λ r. fresh-first))
     (λ q. fresh-first)
   where

@@ -3,23 +3,22 @@ use Prim.Native.Nat.{ℕ}
 use mathlib.Core.Path.{◌≡◌, refl, sym, subst, ◌∙◌}
 use mathlib.Core.List.{List}
 use mathlib.Core.Bool.{true, false}
-use lib.IntN.{ℤ}
 use Rattle.commands.specs.Table.{one_of}
 use Rattle.lines.specs.declared.Immediate.TheVariants.{Terminate}
 use Rattle.lines.specs.declared.Body.{Body}
 use Rattle.lines.specs.Bodies.{body_of}
 use Rattle.turns.specs.declared.Core.{Core}
 use Rattle.turns.specs.Turns.{ended}
-use Rattle.turns.specs.Ends.{text-ends, not-clear, not-cut, bad-slot, unknown, leaves_range, range_ends, homes_limited, set_beyond, last_off, still_off}
+use Rattle.turns.specs.Ends.{text-ends, not-clear, not-cut, bad-slot, unknown, leaves_range, range_ends}
 use Rattle.turns.proofs.MoveLaws.{clash}
 use Rattle.turns.proofs.TurnLaws.{EndedBy, cause, straying, turn-only, turn-each}
 use Rattle.drive.specs.Unit.{Drive}
 use Rattle.obeying.specs.declared.Obeyed.{Obeyed}
 use Rattle.drive.specs.Calls.{Turning}
-use Rattle.obeying.specs.Obeying.{body_obeyed, obeyed_on}
+use Rattle.obeying.specs.Obeying.{body_obeyed}
 use Rattle.drive.specs.Calls.{received_by, body_by}
 use Rattle.obeying.specs.Deeds.{Obeys, refuses, tells, stores, clears, stops, resumes, speeds, again, loads}
-use Rattle.obeying.proofs.RoomLaws.{does-on}
+use Rattle.obeying.proofs.DeedLaws.{body-does}
 use Rattle.runs.specs.Reach.{Call, feed, turn, after, text_of}
 use Rattle.runs.specs.Causes.{Made, Cause, terminate, in-turn, cause_codes}
 use Rattle.runs.specs.Claims.{EndsExactly}
@@ -45,10 +44,9 @@ module _ (c : Core) (h : c.running ≡ true) where
   obeys_only (loads run n r l) q = clash h r
 
   -- each body `T` ends it, the held code as it was
-  body-ends : (body image : List ℕ) → body_of body ≡ Body.Immediate Terminate
-      → ((obeyed_on body image c).core.running ≡ false) × ((obeyed_on body image c).core.code ≡ c.code)
+  body-ends : (body : List ℕ) → body_of body ≡ Body.Immediate Terminate → ((body_obeyed body c).core.running ≡ false) × ((body_obeyed body c).core.code ≡ c.code)
   unfolding body_obeyed ended
-  body-ends body image t = rw (t, h) (refl, refl)
+  body-ends body t = rw (t, h) (refl, refl)
 
 -- ---- each call
 
@@ -60,37 +58,37 @@ module _ (u : Drive) (h : SoundUnit u) (run : u.core.running ≡ true) where
       feed-cases u bytes image buffer (λ (text : List ℕ) (c : Core). c.running ≡ false → Cause u (feed bytes image buffer) c.code)
       (λ q. clash run q)
       (λ d q. let g = received_by u bytes in
-      let f = framed g.frame (body_by u bytes) image u.core d.frame-ours in
-      let k = obeys_only u.core run (does-on (body_by u bytes) image u.core) (rw f at q) in
+      let f = framed g.frame (body_by u bytes) u.core d.frame-ours in
+      let k = obeys_only u.core run (body-does (body_by u bytes) u.core) (rw f at q) in
       rw (f, k.1 ∙ h.code_0 run)
       (terminate (record { buffer_right = d.buffer_right; image_right = d.image_right; frame-ours = d.frame-ours; is_T = k.0 })))
 
   -- a run that a turn ends has had another cause: it cannot have gone astray
-  turn_caused : (sample ms steps : ℕ) (count : ℤ) (image : List ℕ) → (after (turn sample ms steps count image) u).core.running ≡ false
-      → Cause u (turn sample ms steps count image) (after (turn sample ms steps count image) u).core.code
-  turn_caused sample ms steps count image =
-      turn-cases u sample ms steps count image
-      (λ (r : Turning). r.unit.core.running ≡ false → Cause u (turn sample ms steps count image) r.unit.core.code)
-      (λ a q. clash run q) (λ m q. go m (turn-only sample ms steps count u.text image u.core run q))
+  turn_caused : (sample ms steps : ℕ) (image : List ℕ) → (after (turn sample ms steps image) u).core.running ≡ false
+      → Cause u (turn sample ms steps image) (after (turn sample ms steps image) u).core.code
+  turn_caused sample ms steps image =
+      turn-cases u sample ms steps image
+      (λ (r : Turning). r.unit.core.running ≡ false → Cause u (turn sample ms steps image) r.unit.core.code)
+      (λ a q. clash run q) (λ m q. go m (turn-only sample ms steps u.text image u.core run q))
     where
-      go : {k : ℕ} → Made u sample steps image → EndedBy sample steps count (text_of u) image u.core k → Cause u (turn sample ms steps count image) k
+      go : {k : ℕ} → Made u sample steps image → EndedBy sample steps (text_of u) image u.core k → Cause u (turn sample ms steps image) k
       go m (cause e) = in-turn m e
       go m (straying s e) = absurd (not-astray u h sample s)
 
   call_only : (c : Call) → (after c u).core.running ≡ false → Cause u c (after c u).core.code
   call_only (feed bytes image buffer) = feed-only bytes image buffer
-  call_only (turn sample ms steps count image) = turn_caused sample ms steps count image
+  call_only (turn sample ms steps image) = turn_caused sample ms steps image
 
   -- each cause ends the run, with its code
   cause_ends : (c : Call) (k : ℕ) → Cause u c k → ((after c u).core.running ≡ false) × ((after c u).core.code ≡ k)
   cause_ends c k (terminate {bytes} {image} {buffer} t) =
       let d = feed-done u bytes image buffer (record { buffer_right = t.buffer_right; image_right = t.image_right; frame-ours = t.frame-ours }) in
       let g = received_by u bytes in
-      let e = body-ends u.core run (body_by u bytes) image t.is_T in
-      rw (d, framed g.frame (body_by u bytes) image u.core t.frame-ours) (e.0, e.1 ∙ h.code_0 run)
-  cause_ends c k (in-turn {sample} {ms} {steps} {count = count} {image = image} m e) =
-      subst (λ (v : Drive). (v.core.running ≡ false) × (v.core.code ≡ k)) (sym (turn_made u sample ms steps count image m))
-      (turn-each sample ms steps count u.text image u.core k e run)
+      let e = body-ends u.core run (body_by u bytes) t.is_T in
+      rw (d, framed g.frame (body_by u bytes) u.core t.frame-ours) (e.0, e.1 ∙ h.code_0 run)
+  cause_ends c k (in-turn {sample} {ms} {steps} {image = image} m e) =
+      subst (λ (v : Drive). (v.core.running ≡ false) × (v.core.code ≡ k)) (sym (turn_made u sample ms steps image m))
+      (turn-each sample ms steps u.text image u.core k e run)
 
   -- there is no other code
   cause_code : (c : Call) (k : ℕ) → Cause u c k → one_of cause_codes k ≡ true
@@ -100,13 +98,9 @@ module _ (u : Drive) (h : SoundUnit u) (run : u.core.running ≡ true) where
   cause_code c k (in-turn m (not-clear left n e f l)) = refl
   cause_code c k (in-turn m (not-cut left e f l)) = refl
   cause_code c k (in-turn m (bad-slot slot next r q)) = refl
-  cause_code c k (in-turn m (unknown a next r v o q)) = refl
-  cause_code c k (in-turn m (leaves_range a next r o q l)) = refl
-  cause_code c k (in-turn m (range_ends up left e f l z)) = refl
-  cause_code c k (in-turn m (homes_limited n next r q)) = refl
-  cause_code c k (in-turn m (set_beyond n next r q l)) = refl
-  cause_code c k (in-turn m (last_off made q e f l)) = refl
-  cause_code c k (in-turn m (still_off a next r v o)) = refl
+  cause_code c k (in-turn m (unknown a next r v q)) = refl
+  cause_code c k (in-turn m (leaves_range a next r q l)) = refl
+  cause_code c k (in-turn m (range_ends up left e f z)) = refl
 
 pub ends-exactly : (u : Drive) → SoundUnit u → (c : Call) → EndsExactly u c
 ends-exactly u h c = record {

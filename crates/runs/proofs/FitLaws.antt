@@ -1,4 +1,4 @@
--- What a unit tells fits its packet: settings, sample and code stay in their ranges, and the text has its 256 bytes. No deed takes it away.
+-- What a unit tells fits its packet: settings, sample and code stay small, and the text has its 256 bytes. No deed takes it away.
 -- Assumes nothing.
 use Prim.Native.Nat.{ℕ, ◌≤◌, ◌<◌}
 use mathlib.Core.Path.{◌≡◌, refl}
@@ -11,7 +11,6 @@ use Rattle.digits.specs.Operand.{widest}
 use Rattle.image.specs.Image.{slot_text}
 use Rattle.motor.specs.declared.Motor.{Motor}
 use Rattle.motor.specs.Motion.{fresh_motor, reported, stopped}
-use Rattle.motor.specs.Corrections.{recovered}
 use Rattle.turns.specs.declared.setting.Settings.{Settings}
 use Rattle.turns.specs.declared.Core.{Core}
 use Rattle.turns.specs.declared.Stepped.{Stepped}
@@ -21,22 +20,16 @@ use Rattle.obeying.specs.declared.Obeyed.{Obeyed}
 use Rattle.obeying.specs.Obeying.{loaded_as, text_written}
 use Rattle.drive.specs.Unit.{Drive}
 use Rattle.drive.specs.Calls.{most_sample}
-use Rattle.motor.specs.Deeds.{MotorLeads, same, waits, less, jogs-less, places, loses, recovers}
+use Rattle.motor.specs.Deeds.{MotorLeads, same, waits, less, places}
 use Rattle.keeping.specs.Deeds.{SettingsLead, Does, goes, ends, Steps, keeps-text, enters-text}
 use Rattle.motor.specs.Deeds.{code_values}
 use Rattle.obeying.specs.Deeds.{Obeys, refuses, tells, stores, clears, stops, resumes, speeds, again, loads}
-use Rattle.keeping.proofs.SettingLaws.{speed-fits, speed-most, endless-fits, correction-fits, exponent_fits, ratio-fits, tries_fit}
+use Rattle.keeping.proofs.SettingLaws.{speed-fits, speed-most, endless-fits, correction-fits, exponent_fits}
 use Rattle.keeping.proofs.Kept.{Kept}
 
--- of the settings those that are told, `?2`, `?7`, `?6`, and those of the encoder, which stay in the ranges of their rows
+-- of the settings those that are told: `?2`, `?7`, `?6`
 abbrev pub FitSettings : Settings → Type 0
-FitSettings s = record {
-  speed : s.speed ≤ widest;
-  correction : s.correction ≤ widest;
-  exponent : s.exponent ≤ 8;
-  ratio : (1000 ≤ s.ratio) × (s.ratio ≤ 1000000);
-  tries : 1 ≤ s.tries;
-}
+FitSettings s = record { speed : s.speed ≤ widest; correction : s.correction ≤ widest; exponent : s.exponent ≤ 8 }
 
 -- what is told of a core: `?4`, `?5` and the held code too
 abbrev pub Fit : Core → Type 0
@@ -55,23 +48,19 @@ padded-bytes t = length-padded 256 (take 256 t) (omega (arith, length-take 256 t
 -- "Defaults: V 305175, .. o 1500, .. last sample 15"
 fresh_fit : Fit fresh_core
 unfolding fresh_core defaults fresh_motor
-fresh_fit = record { settings = record { speed = omega arith; correction = omega arith; exponent = omega arith; ratio = (omega arith, omega arith); tries = omega arith }; sample = omega arith; endless = omega arith; code = omega arith }
+fresh_fit = record { settings = record { speed = omega arith; correction = omega arith; exponent = omega arith }; sample = omega arith; endless = omega arith; code = omega arith }
 
 -- ---- the deeds
 
 settings_fit : {s r : Settings} → FitSettings s → SettingsLead s r → FitSettings r
-settings_fit f d = record { speed = speed-fits d f.speed; correction = correction-fits d f.correction; exponent = exponent_fits d f.exponent; ratio = ratio-fits d f.ratio; tries = tries_fit d f.tries }
+settings_fit f d = record { speed = speed-fits d f.speed; correction = correction-fits d f.correction; exponent = exponent_fits d f.exponent }
 
 -- the sample stays that of the turn
 sample-same : {steps : ℕ} {m n : Motor} → MotorLeads steps m n → n.sample ≡ m.sample
-unfolding recovered
 sample-same (same e) = refl
 sample-same (waits w r) = refl
 sample-same (less up left e) = refl
-sample-same (jogs-less up left e) = refl
-sample-same (places p n l) = refl
-sample-same (loses e) = refl
-sample-same (recovers e) = refl
+sample-same (places p l) = refl
 
 ended_fit : (k : ℕ) (c : Core) → Fit c → k < code_values → Fit (ended k c)
 unfolding ended stopped
@@ -106,5 +95,5 @@ fit_kept = record {
   fresh = (fresh_fit, padded-bytes []);
   held = (ended_fit 1 fresh_core fresh_fit (omega arith), padded-bytes []);
   obeys = λ {body} {text} h d. obeys_fit text h d;
-  turns = λ {sample} {steps} count {text} h l r d. steps_fit text (record { settings = h.0.settings; sample = l; endless = h.0.endless; code = h.0.code }, h.1) d;
+  turns = λ {sample} {steps} {text} h l r d. steps_fit text (record { settings = h.0.settings; sample = l; endless = h.0.endless; code = h.0.code }, h.1) d;
 }

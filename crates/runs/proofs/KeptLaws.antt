@@ -3,21 +3,19 @@ use Prim.Native.Nat.{ℕ}
 use mathlib.Core.Path.{◌≡◌, refl, sym, subst}
 use mathlib.Core.List.{List}
 use mathlib.Core.Bool.{Bool, true, false}
-use lib.IntN.{ℤ}
 use Rattle.commands.specs.declared.Command.{Command}
 use Rattle.commands.specs.declared.Read.{Read}
 use Rattle.commands.specs.declared.Read.TheVariants.{At, Bad, End}
 use Rattle.commands.specs.Reading.{read_at}
 use Rattle.motor.specs.declared.Moved.{Moved}
 use Rattle.motor.specs.declared.Moved.TheVariants.{Goes, Stops}
-use Rattle.motor.specs.Motion.{reported, is_free}
-use Rattle.motor.specs.Corrections.{served_on}
+use Rattle.motor.specs.Motion.{reported, served, is_free}
 use Rattle.turns.specs.declared.Core.{Core}
 use Rattle.turns.specs.declared.Enter.TheVariants.{Stay}
 use Rattle.turns.specs.declared.Stepped.{Stepped}
-use Rattle.turns.specs.Turns.{switches_of, with_motor, ended, astray, moved, read_taken, step_of, turn_core, text_after}
+use Rattle.turns.specs.Turns.{with_motor, ended, astray, moved, read_taken, step_of, turn_core, text_after}
 use Rattle.turns.specs.Ends.{Reads}
-use Rattle.turns.proofs.TurnLaws.{at-command, at-wait}
+use Rattle.turns.proofs.TurnLaws.{at_command, at_wait}
 use Rattle.drive.specs.Unit.{Drive}
 use Rattle.drive.specs.Calls.{Turning}
 use Rattle.keeping.proofs.TurnLaws.{free}
@@ -40,37 +38,37 @@ moved-flow (Stops k) c = refl
 abbrev Stayed : Core → Stepped → Type 0
 Stayed c s = (s.core.flow ≡ c.flow) × (s.enter ≡ Stay)
 
-step_stays : (sample ms steps : ℕ) (count : ℤ) (t image : List ℕ) (c : Core) → c.running ≡ true
-    → ((d : Command) (next : ℕ) → Reads t c (At d next) → ⊥) → Stayed c (step_of sample ms steps count t image c)
+step_stays : (sample ms steps : ℕ) (t image : List ℕ) (c : Core) → c.running ≡ true
+    → ((d : Command) (next : ℕ) → Reads t c (At d next) → ⊥) → Stayed c (step_of sample ms steps t image c)
 unfolding read_taken astray ended
-step_stays sample ms steps count t image c h never = go (is_free c.motor.wait) refl
+step_stays sample ms steps t image c h never = go (is_free c.motor.wait) refl
   where
     then : Core
-    then = with_motor (reported sample steps count c.motor) c
+    then = with_motor (reported sample steps c.motor) c
 
     read : (r : Read) → Reads t c r → Stayed c (read_taken r t image then)
     read (At d next) r = absurd (never d next r)
     read (Bad k p) r = (refl, refl)
     read End r = (refl, refl)
 
-    go : (b : Bool) → is_free c.motor.wait ≡ b → Stayed c (step_of sample ms steps count t image c)
+    go : (b : Bool) → is_free c.motor.wait ≡ b → Stayed c (step_of sample ms steps t image c)
     go true w =
         let r : Reads t c (read_at t c.flow.at) = record { free = free c.motor.wait w; stands = refl } in
-        subst (Stayed c) (sym (at-command sample ms steps count t image c h (read_at t c.flow.at) r)) (read (read_at t c.flow.at) r)
-    go false w = subst (Stayed c) (sym (at-wait sample ms steps count t image c h c.motor.wait refl w)) (moved-flow (served_on c.motor.wait c.motor.sample (switches_of c) ms steps then.motor) then, refl)
+        subst (Stayed c) (sym (at_command sample ms steps t image c h (read_at t c.flow.at) r)) (read (read_at t c.flow.at) r)
+    go false w = subst (Stayed c) (sym (at_wait sample ms steps t image c h c.motor.wait refl w)) (moved-flow (served c.motor.wait c.motor.sample c.settings.flag ms steps then.motor) then, refl)
 
 -- ---- a call
 
 pub kept : (u : Drive) (c : Call) → u.core.running ≡ true → ((d : Command) (s : ℕ) → TakesCommand u d s c → ⊥) → Same u.text u.core (after c u).text (after c u).core
 unfolding turn_core
 kept u (feed bytes image buffer) h never = let q = feed-same u bytes image buffer h in (q.0, q.1)
-kept u (turn sample ms steps count image) h never =
-    turn-cases u sample ms steps count image (λ (r : Turning). Same u.text u.core r.unit.text r.unit.core) (λ a. (refl, refl)) made
+kept u (turn sample ms steps image) h never =
+    turn-cases u sample ms steps image (λ (r : Turning). Same u.text u.core r.unit.text r.unit.core) (λ a. (refl, refl)) made
   where
     s : Stepped
-    s = step_of sample ms steps count (text_of u) image u.core
+    s = step_of sample ms steps (text_of u) image u.core
 
     made : Made u sample steps image → Same u.text u.core (text_after s.enter u.text image) s.core
     made m =
-        let q = step_stays sample ms steps count (text_of u) image u.core h (λ d next r. never d sample (takes next m r)) in
+        let q = step_stays sample ms steps (text_of u) image u.core h (λ d next r. never d sample (takes next m r)) in
         (rw q.1, q.0)

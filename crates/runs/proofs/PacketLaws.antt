@@ -12,11 +12,9 @@ use Rattle.parts.specs.Parts.{put_in, most_bytes}
 use Rattle.parts.proofs.Laws.{cases, put_in_room, put_front}
 use Rattle.answers.specs.Packet.{status_of, most_data, packet_bytes}
 use Rattle.answers.specs.Reading.{all_printable, good_data}
-use Rattle.answers.proofs.ReadBack.{reads-back, number-good}
+use Rattle.answers.proofs.ReadBack.{reads_back, number-good}
 use Rattle.answers.proofs.Framing.{plain, oem}
 use Rattle.frames.specs.declared.Framing.{Framing}
-use Rattle.motor.specs.Limits.{corrects}
-use Rattle.motor.specs.Corrections.{record_count}
 use Rattle.turns.specs.declared.Core.{Core}
 use Rattle.turns.specs.Turns.{started, ended}
 use Rattle.drive.specs.Unit.{Drive}
@@ -25,7 +23,7 @@ use Rattle.obeying.specs.declared.Tell.{Tell}
 use Rattle.obeying.specs.Obeying.{step_size, data_of, place_told, loaded_as, text_written}
 use Rattle.drive.specs.Calls.{answer_to, received_by, body_by, obeyed_by, text_then, feed_of}
 use Rattle.runs.specs.Packets.{IsAnswered, answered_by, told_by, ReadIn, ReadBack}
-use Rattle.runs.proofs.SoundLaws.{Sound, SoundUnit, counts_range}
+use Rattle.runs.proofs.SoundLaws.{Sound, SoundUnit}
 use Rattle.runs.proofs.CallLaws.{feed-done}
 use Rattle.runs.proofs.PrintLaws.{checked-printable}
 use Rattle.motor.specs.Deeds.{code_values}
@@ -60,10 +58,7 @@ module _ (c : Core) (text : List ℕ) (s : Sound (take c.flow.length text) c) (h
   tells-good : {t : Tell} → Tells c t → good_data (data_of t c.flow.length text) ≡ true
   tells-good nothing-told = nothing-good
   tells-good text-told = current-good
-  tells-good position-told =
-      cases (λ (n : ℕ). good_data (data_of (Tell.Number n) c.flow.length text) ≡ true) (corrects c.settings.mode)
-      (λ q. number-good (record_count c.settings.ratio c.motor).0 (omega (arith, counts_range s)))
-      (λ q. number-good c.motor.position (omega (arith, s.motor.in_range)))
+  tells-good position-told = number-good c.motor.position (omega (arith, s.motor.in_range))
   tells-good speed-told = number-good c.settings.speed h.0.settings.speed
   tells-good sample-told = number-good c.motor.sample (omega (arith, h.0.sample))
   tells-good endless-told = number-good c.endless h.0.endless
@@ -107,44 +102,44 @@ answer-most g o text t =
 answer-reads : (g : Framing) (o : Obeyed) (text : List ℕ) → Tellable o text
     → ReadIn g (answer_to g o text) (not o.core.running) o.code (data_of o.tell o.core.flow.length text)
 unfolding answer_to
-answer-reads Framing.Plain o text t = reads-back plain (not o.core.running) o.code (data_of o.tell o.core.flow.length text) t.0
-answer-reads (Framing.Oem q) o text t = reads-back oem (not o.core.running) o.code (data_of o.tell o.core.flow.length text) t.0
+answer-reads Framing.Plain o text t = reads_back plain (not o.core.running) o.code (data_of o.tell o.core.flow.length text) t.0
+answer-reads (Framing.Oem q) o text t = reads_back oem (not o.core.running) o.code (data_of o.tell o.core.flow.length text) t.0
 
 module _ (u : Drive) (bytes image buffer : List ℕ) (a : IsAnswered u bytes image buffer) where
   abbrev left : List ℕ
-  left = text_then (body_by u bytes) (obeyed_by u bytes image) u.text
+  left = text_then (body_by u bytes) (obeyed_by u bytes) u.text
 
   abbrev framing : Framing
   framing = (received_by u bytes).framing
 
   -- what an answered call leaves: how many bytes, the buffer, the core
-  answered-long : (feed_of u bytes image buffer).answered ≡ length (answer_to framing (obeyed_by u bytes image) left)
+  answered-long : (feed_of u bytes image buffer).answered ≡ length (answer_to framing (obeyed_by u bytes) left)
   unfolding feed_of
   answered-long = rw (le-ltb (length buffer) packet_bytes a.buffer_right, a.image_right, a.frame-alone)
 
-  buffer-then : (feed_of u bytes image buffer).buffer ≡ put_in buffer 0 (answer_to framing (obeyed_by u bytes image) left)
+  buffer-then : (feed_of u bytes image buffer).buffer ≡ put_in buffer 0 (answer_to framing (obeyed_by u bytes) left)
   unfolding feed_of
   buffer-then = rw (le-ltb (length buffer) packet_bytes a.buffer_right, a.image_right, a.frame-alone)
 
-  core-then : (feed_of u bytes image buffer).unit.core ≡ (obeyed_by u bytes image).core
+  core-then : (feed_of u bytes image buffer).unit.core ≡ (obeyed_by u bytes).core
   core-then = feed-done u bytes image buffer (record { buffer_right = a.buffer_right; image_right = a.image_right; frame-ours = rw a.frame-alone })
 
   -- the bytes that the call answers are the packet
-  pub answer_is : SoundUnit u → FitUnit u → answered_by u bytes image buffer ≡ answer_to framing (obeyed_by u bytes image) left
+  pub answer_is : SoundUnit u → FitUnit u → answered_by u bytes image buffer ≡ answer_to framing (obeyed_by u bytes) left
   answer_is s h =
-      let o : Obeyed = obeyed_by u bytes image in
-      let t : Tellable o left = obeys_told u.core u.text s h (frame-does (received_by u bytes).frame (body_by u bytes) image u.core) in
+      let o : Obeyed = obeyed_by u bytes in
+      let t : Tellable o left = obeys_told u.core u.text s h (frame-does (received_by u bytes).frame (body_by u bytes) u.core) in
       rw (answered-long, buffer-then, front-written buffer (answer_to framing o left) (omega (arith, a.buffer_right, answer-most framing o left t)))
 
   pub read_back : SoundUnit u → FitUnit u → ReadBack u bytes image buffer
   read_back s h =
-      let o : Obeyed = obeyed_by u bytes image in
+      let o : Obeyed = obeyed_by u bytes in
       let r = received_by u bytes in
-      let t : Tellable o left = obeys_told u.core u.text s h (frame-does r.frame (body_by u bytes) image u.core) in
+      let t : Tellable o left = obeys_told u.core u.text s h (frame-does r.frame (body_by u bytes) u.core) in
       let most = answer-most framing o left t in
       record {
         reads = rw (answered-long, buffer-then, front-written buffer (answer_to framing o left) (omega (arith, a.buffer_right)))
-            (subst (λ (c : Core). ReadIn framing (answer_to framing o left) (not c.running) o.code (told_by u bytes image)) (sym core-then) (answer-reads framing o left t));
+            (subst (λ (c : Core). ReadIn framing (answer_to framing o left) (not c.running) o.code (told_by u bytes)) (sym core-then) (answer-reads framing o left t));
         code-whole = omega (arith, t.1);
         fits = rw answered-long most;
       }

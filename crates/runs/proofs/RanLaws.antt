@@ -4,7 +4,6 @@ use mathlib.Core.Path.{◌≡◌, refl, sym, ap, subst, ◌∙◌}
 use mathlib.Core.List.{List, [], ◌∷◌, ◌++◌}
 use mathlib.Core.Bool.{true, false}
 use native.Mathlib.Omega.{arith}
-use lib.IntN.{ℤ}
 use lib.ListN.{length, take, length-append}
 use Rattle.commands.specs.declared.Command.{Command}
 use Rattle.commands.specs.declared.Command.TheVariants.{LoopBegin, LoopEnd, Skip, Jump, Plain}
@@ -49,16 +48,16 @@ still_other {t} {whole} {xs} v c h k s =
 
 -- ---- a command taken
 
-turn_still_lem : {whole : Course} {xs : List Step} (v : Drive) (sample ms steps : ℕ) (count : ℤ) (image : List ℕ) (d : Command) (n : ℕ) → v.core.running ≡ true
+turn_still_lem : {whole : Course} {xs : List Step} (v : Drive) (sample ms steps : ℕ) (image : List ℕ) (d : Command) (n : ℕ) → v.core.running ≡ true
     → Made v sample steps image → Reads (text_of v) v.core (At d n) → NoJump d → Still (text_of v) whole xs v
-    → Still (text_of v) whole (xs ++ (step d sample ∷ [])) (after (turn sample ms steps count image) v)
+    → Still (text_of v) whole (xs ++ (step d sample ∷ [])) (after (turn sample ms steps image) v)
 unfolding reported
-turn_still_lem {whole} {xs} v sample ms steps count image d n h m r j s =
+turn_still_lem {whole} {xs} v sample ms steps image d n h m r j s =
     let t = text_of v in
-    let w = after (turn sample ms steps count image) v in
-    let x = turned v h sample ms steps count image m d n r in
+    let w = after (turn sample ms steps image) v in
+    let x = turned v h sample ms steps image m d n r in
     let q = next-stands t whole v.core.flow.at sample r.stands s.took in
-    let g = command-goes image (with_motor (reported sample steps count v.core.motor) v.core) d n s.ok r.stands j q in
+    let g = command-goes image (with_motor (reported sample steps v.core.motor) v.core) d n s.ok r.stands j q in
     let f = sym (ap (λ (u : Drive). u.core.flow) x) in
     let ok : FlowOk t w.core.flow = subst (FlowOk t) f g.ok in
     let same : w.text ≡ v.text = ap (λ (u : Drive). u.text) x ∙ ap (λ (e : Enter). text_after e v.text image) g.stays in
@@ -77,7 +76,7 @@ still_taking : {t : List ℕ} {whole : Course} {xs : List Step} (v : Drive) {d :
 still_taking {t} {whole} {xs} v {d} {s} {c} h k j y = subst (λ (l : List ℕ). Still l whole (xs ++ (step d s ∷ [])) (after c v)) y.text (go s c k (own v y))
   where
     go : (s : ℕ) (b : Call) → TakesCommand v d s b → Still (text_of v) whole xs v → Still (text_of v) whole (xs ++ (step d s ∷ [])) (after b v)
-    go s b (takes {sample} {ms} {steps} {count} {image} n m r) y = turn_still_lem v sample ms steps count image d n h m r j y
+    go s b (takes {sample} {ms} {steps} {image} n m r) y = turn_still_lem v sample ms steps image d n h m r j y
 
 -- once it is taken it is of the run, `e` too
 next-runs : (t : List ℕ) (whole : Course) (os : List Open) (xs : List Step) (s : ℕ) (d : Command) (n : ℕ) → Next t whole os xs s d n → Runs whole false xs

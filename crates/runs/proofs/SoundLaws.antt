@@ -17,10 +17,7 @@ use Rattle.image.proofs.HeldLaws.{empty-good, text-passes, text-fits}
 use Rattle.flow.specs.declared.Flow.{Flow}
 use Rattle.flow.specs.Flow.{begun}
 use Rattle.flow.proofs.FlowLaws.{FlowOk, begun_ok, gone_ok, skipped_ok, opened_ok, closed_ok}
-use Rattle.encoder.specs.Ratio.{microsteps}
-use Rattle.encoder.proofs.RatioLaws.{counts_fewer}
 use Rattle.motor.specs.Motion.{answered}
-use Rattle.motor.specs.Corrections.{record_count}
 use Rattle.motor.proofs.MotorLaws.{MotorOk, Counted, Within, fresh_ok, resumed_ok, stopped_ok, reported_ok, answered_ok, stopped-within, on-within}
 use Rattle.turns.specs.declared.Core.{Core}
 use Rattle.turns.specs.declared.Stepped.{Stepped}
@@ -46,16 +43,12 @@ SoundIn text c = Sound (take c.flow.length text) c
 abbrev pub SoundUnit : Drive → Type 0
 SoundUnit u = SoundIn u.text u.core
 
--- the record's count is in the range of its position
-pub counts_range : {t : List ℕ} {c : Core} → Sound t c → (record_count c.settings.ratio c.motor).0 ≤ top
-counts_range {c = c} h = omega (arith, counts_fewer c.settings.ratio (microsteps c.motor.position), h.motor.in_range)
-
 -- a text that fits is read again from its 256 bytes
-pub text-kept : (t : List ℕ) → length t ≤ most_bytes → take (length t) (padded_text t) ≡ t
-text-kept t h = rw (take_all 256 t h) (take-padded 256 t)
+pub text_kept : (t : List ℕ) → length t ≤ most_bytes → take (length t) (padded_text t) ≡ t
+text_kept t h = rw (take_all 256 t h) (take-padded 256 t)
 
 in_bytes : {t : List ℕ} {c : Core} → length t ≤ most_bytes → Sound t c → SoundIn (padded_text t) c
-in_bytes {t} {c} l h = let e : take c.flow.length (padded_text t) ≡ t = rw h.flow.length (text-kept t l) in rw e h
+in_bytes {t} {c} l h = let e : take c.flow.length (padded_text t) ≡ t = rw h.flow.length (text_kept t l) in rw e h
 
 -- ---- the deeds of a body
 
@@ -66,23 +59,23 @@ fresh-sound h = record { flow = begun_ok h; motor = fresh_ok; code_0 = λ q. ref
 
 started-sound : {t : List ℕ} {n : ℕ} (c : Core) → Checked t → n ≡ length t → MotorOk c.motor → Sound t (started n c)
 unfolding started
-started-sound {t} c h e m = rw e (record { flow = begun_ok h; motor = resumed_ok m; code_0 = λ q. refl })
+started-sound {t} c h e m = rw e (record { flow = begun_ok h; motor = m; code_0 = λ q. refl })
 
 -- "without, it is loaded and held"
 loaded-sound : {t : List ℕ} {n : ℕ} (c : Core) → Checked t → n ≡ length t → MotorOk c.motor → Sound t (loaded_as n c)
 unfolding loaded_as
-loaded-sound {t} c h e m = rw e (record { flow = begun_ok h; motor = resumed_ok m; code_0 = λ q. absurd (false≢true q) })
+loaded-sound {t} c h e m = rw e (record { flow = begun_ok h; motor = m; code_0 = λ q. absurd (false≢true q) })
 
 -- `T`: the held code stays, and with it the place in the text
 ended-sound : {t : List ℕ} (k : ℕ) (c : Core) → Sound t c → Sound t (ended k c)
 unfolding ended
-ended-sound k c h = record { flow = h.flow; motor = stopped_ok k h.motor; code_0 = λ q. absurd (false≢true q) }
+ended-sound k c h = record { flow = h.flow; motor = stopped_ok h.motor; code_0 = λ q. absurd (false≢true q) }
 
 obeys_sound : {body : List ℕ} (text : List ℕ) {c : Core} {o : Obeyed} → SoundIn text c → Obeys body c o → SoundIn (text_written o.write body text) o.core
 unfolding ended started begun
 obeys_sound text h (refuses f l p) = h
 obeys_sound text h (tells t l) = h
-obeys_sound text h (stores slot at n i l) = record { flow = h.flow; motor = resumed_ok h.motor; code_0 = h.code_0 }
+obeys_sound text h (stores slot at n i l) = h
 obeys_sound text h clears = h
 obeys_sound text {c = c} h (stops e r) = ended-sound c.code c h
 obeys_sound text h resumes = record { flow = h.flow; motor = resumed_ok h.motor; code_0 = h.code_0 }
@@ -111,7 +104,7 @@ leads_ok h (ends-loop e) = closed_ok h e
 
 ended_amid : {t : List ℕ} (k : ℕ) (c : Core) → FlowOk t c.flow → c.motor.position ≤ top → Amid t (ended k c)
 unfolding ended
-ended_amid k c f p = record { flow = f; motor = stopped-within k c.motor p; code_0 = λ q. absurd (false≢true q) }
+ended_amid k c f p = record { flow = f; motor = stopped-within c.motor p; code_0 = λ q. absurd (false≢true q) }
 
 does_amid : {steps : ℕ} {t : List ℕ} {c d : Core} → FlowOk t c.flow → Counted steps c.motor → (c.running ≡ true → c.code ≡ 0)
     → Does steps t c d → Amid t d
@@ -136,10 +129,10 @@ steps-sound text {image} {c} f m z (enters-text slot e) =
       code_0 = z;
     }))
 
-pub sound-kept : Kept SoundIn
-sound-kept = record {
+pub sound_kept : Kept SoundIn
+sound_kept = record {
   fresh = in_bytes (omega arith) (fresh-sound (text-checked [] empty-good));
   held = in_bytes (omega arith) (ended-sound 1 fresh_core (fresh-sound (text-checked [] empty-good)));
   obeys = λ {body} {text} h d. obeys_sound text h d;
-  turns = λ {sample} {steps} count {text} h l r d. steps-sound text h.flow (reported_ok sample steps count h.motor r) h.code_0 d;
+  turns = λ {sample} {steps} {text} h l r d. steps-sound text h.flow (reported_ok sample steps h.motor r) h.code_0 d;
 }

@@ -4,12 +4,11 @@ use mathlib.Core.Path.{◌≡◌, refl, sym, ap, subst}
 use mathlib.Core.List.{List}
 use mathlib.Core.Bool.{true, false}
 use native.Mathlib.Omega.{arith}
-use lib.IntN.{ℤ}
 use lib.ListN.{length, take}
 use Rattle.commands.specs.declared.Command.{Command}
 use Rattle.commands.specs.declared.Command.TheVariants.{LoopBegin, LoopEnd, Skip, Jump, Plain}
 use Rattle.commands.specs.declared.Act.{Act}
-use Rattle.commands.specs.declared.Act.TheVariants.{MoveTo, MoveUp, MoveDown, SetPosition, Home, Set, Delay, WaitInput, Recover}
+use Rattle.commands.specs.declared.Act.TheVariants.{MoveTo, MoveUp, MoveDown, SetPosition, Home, Set, Delay, WaitInput}
 use Rattle.commands.specs.declared.Read.{Read}
 use Rattle.commands.specs.declared.Read.TheVariants.{At, Bad, End}
 use Rattle.commands.specs.Reading.{read_at}
@@ -21,16 +20,14 @@ use Rattle.motor.specs.Inputs.{level_there}
 use Rattle.flow.specs.declared.Flow.{Flow}
 use Rattle.flow.specs.Flow.{gone, opens}
 use Rattle.flow.proofs.FlowLaws.{FlowOk, opens-length, gone_ok, skipped_ok, begin_goes, opened_ok, end_goes, closed_ok}
-use Rattle.motor.specs.Motion.{reported}
+use Rattle.motor.specs.Motion.{relative, absolute, if_known, reported}
 use Rattle.courses.specs.Meaning.{Course, Step}
 use Rattle.courses.proofs.StandLaws.{Skipped, Next}
 use Rattle.courses.proofs.FlowLaws.{loops_of, Taken, opened-taken, closed-taken}
 use Rattle.turns.specs.declared.Core.{Core}
 use Rattle.turns.specs.declared.Enter.TheVariants.{Stay}
 use Rattle.turns.specs.declared.Stepped.{Stepped}
-use Rattle.motor.specs.Jogs.{home_taken}
-use Rattle.motor.specs.Corrections.{absolute_taken, relative_taken, place_taken}
-use Rattle.turns.specs.Turns.{with_flow, with_motor, switches_of, acted, skip_taken, stays, command_taken, skipped as skippedTo}
+use Rattle.turns.specs.Turns.{with_flow, with_motor, acted, skip_taken, stays, command_taken, skipped as skippedTo}
 use Rattle.turns.specs.Ends.{Reads}
 use Rattle.drive.specs.Unit.{Drive}
 use Rattle.runs.specs.Reach.{turn, after, text_of}
@@ -42,22 +39,21 @@ use Rattle.runs.proofs.KeptLaws.{moved-flow}
 -- a plain command leaves the flow behind it
 acted-flow : (a : Act) (c : Core) → (acted a c).flow ≡ c.flow
 unfolding acted
-acted-flow (MoveTo n) c = moved-flow (absolute_taken (switches_of c) n c.motor) c
-acted-flow (MoveUp n) c = moved-flow (relative_taken (switches_of c) true n c.motor) c
-acted-flow (MoveDown n) c = moved-flow (relative_taken (switches_of c) false n c.motor) c
-acted-flow (SetPosition n) c = moved-flow (place_taken (switches_of c) n c.motor) c
-acted-flow (Home n) c = moved-flow (home_taken (switches_of c) n c.motor) c
+acted-flow (MoveTo n) c = moved-flow (if_known c.motor (absolute n c.motor)) c
+acted-flow (MoveUp n) c = moved-flow (if_known c.motor (relative true n c.motor)) c
+acted-flow (MoveDown n) c = moved-flow (if_known c.motor (relative false n c.motor)) c
+acted-flow (SetPosition n) c = refl
+acted-flow (Home n) c = refl
 acted-flow (Set which n) c = refl
 acted-flow (Delay n) c = refl
 acted-flow (WaitInput n) c = refl
-acted-flow Recover c = refl
 
-pub plain-goes-on : (u : Drive) (a : Act) (next sample ms steps : ℕ) (count : ℤ) (image : List ℕ) → u.core.running ≡ true → Made u sample steps image
-    → Reads (text_of u) u.core (At (Plain a) next) → GoesOn u next (after (turn sample ms steps count image) u)
+pub plain-goes-on : (u : Drive) (a : Act) (next sample ms steps : ℕ) (image : List ℕ) → u.core.running ≡ true → Made u sample steps image
+    → Reads (text_of u) u.core (At (Plain a) next) → GoesOn u next (after (turn sample ms steps image) u)
 unfolding command_taken
-plain-goes-on u a next sample ms steps count image h m r =
-    let e = acted-flow a (with_flow (gone next u.core.flow) (with_motor (reported sample steps count u.core.motor) u.core)) in
-    subst (GoesOn u next) (sym (turned u h sample ms steps count image m (Plain a) next r)) (record {
+plain-goes-on u a next sample ms steps image h m r =
+    let e = acted-flow a (with_flow (gone next u.core.flow) (with_motor (reported sample steps u.core.motor) u.core)) in
+    subst (GoesOn u next) (sym (turned u h sample ms steps image m (Plain a) next r)) (record {
       text_same = ap (λ (f : Flow). take f.length u.text) e;
       place = ap (λ (f : Flow). f.at) e;
       depth_same = ap (λ (f : Flow). f.depth) e;

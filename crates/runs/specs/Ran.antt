@@ -1,6 +1,6 @@
 -- A run as its calls: the commands that its turns take, in their order. 01, "A turn"; 02, E14.
 -- Assumes nothing.
-use Rattle.std.specs.Prelude.{ℕ, ◌≡◌, List, [], ◌∷◌, ◌++◌, true, ℤ}
+use Rattle.std.specs.Prelude.{ℕ, ◌≡◌, List, [], ◌∷◌, ◌++◌, true}
 use Rattle.commands.specs.declared.Command.{Command}
 use Rattle.commands.specs.declared.Read.TheVariants.{At}
 use Rattle.turns.specs.Ends.{Reads}
@@ -11,8 +11,8 @@ use Rattle.runs.specs.Causes.{Made}
 
 -- the call is a turn of u that takes the command d, with this sample: it is not refused, nothing is waited for, and the command stands at the place
 pub data TakesCommand (u : Drive) (d : Command) : ℕ → Call → Type 0 where
-  takes : {sample ms steps : ℕ} {count : ℤ} {image : List ℕ} (next : ℕ) → Made u sample steps image → Reads (text_of u) u.core (At d next)
-      → TakesCommand u d sample (turn sample ms steps count image)
+  takes : {sample ms steps : ℕ} {image : List ℕ} (next : ℕ) → Made u sample steps image → Reads (text_of u) u.core (At d next)
+      → TakesCommand u d sample (turn sample ms steps image)
 
 -- a run of u begins: its first command is next, and no loop is open
 pub record Begins (u : Drive) : Type 0 where

@@ -1,6 +1,6 @@
 -- What is claimed of runs: they take the commands of their course. 01, "A turn"; 02, E14.
 -- Assumes nothing.
-use Rattle.std.specs.Prelude.{ℕ, ◌+◌, ◌≤◌, ◌≡◌, List, [], ◌∷◌, ◌++◌, true, false, ℤ, length}
+use Rattle.std.specs.Prelude.{ℕ, ◌+◌, ◌≤◌, ◌≡◌, List, [], ◌∷◌, ◌++◌, true, false, length}
 use Rattle.commands.specs.declared.Command.{Command}
 use Rattle.commands.specs.declared.Command.TheVariants.{LoopBegin, LoopEnd, Skip, Jump, Plain}
 use Rattle.commands.specs.declared.Act.{Act}
@@ -50,8 +50,8 @@ pub record RunsAs (t : List ℕ) (xs : List Step) (v : Drive) : Type 0 where
   -- `e` is taken in its course too
   pub leaves : {i s : ℕ} {k : Call} → v.core.running ≡ true → TakesCommand v (Jump i) s k → Runs (course_in t) false (xs ++ (step (Jump i) s ∷ []))
   -- and "makes the slot's text the current text .. and begins it", where it does not stop the run
-  pub enters : {i sample ms steps : ℕ} {count : ℤ} {image : List ℕ} → v.core.running ≡ true → TakesCommand v (Jump i) sample (turn sample ms steps count image)
-      → Entered (slot_text image i) (after (turn sample ms steps count image) v)
+  pub enters : {i sample ms steps : ℕ} {image : List ℕ} → v.core.running ≡ true → TakesCommand v (Jump i) sample (turn sample ms steps image)
+      → Entered (slot_text image i) (after (turn sample ms steps image) v)
 
 -- the same in a text without `S`, `e` and `G0`
 pub record RunsCounted (t : List ℕ) (xs : List Step) (v : Drive) : Type 0 where
@@ -73,5 +73,5 @@ pub record ScheduleClaims : Type 0 where
   pub runs_as : {u v : Drive} {xs : List Step} → Reached u → Begins u → Ran u xs v → InText (commands_of xs) → RunsAs (text_of u) xs v
   pub counted : {u v : Drive} {xs : List Step} → Reached u → Begins u → Steady (course_in (text_of u)) → Ran u xs v → RunsCounted (text_of u) xs v
   -- a plain command keeps the flow, also where it stops the run: the one statement that knows each of them, so one command more is one case more of its proof
-  pub plain-goes-on : (u : Drive) (a : Act) (next sample ms steps : ℕ) (count : ℤ) (image : List ℕ) → u.core.running ≡ true → Made u sample steps image
-      → Reads (text_of u) u.core (At (Plain a) next) → GoesOn u next (after (turn sample ms steps count image) u)
+  pub plain-goes-on : (u : Drive) (a : Act) (next sample ms steps : ℕ) (image : List ℕ) → u.core.running ≡ true → Made u sample steps image
+      → Reads (text_of u) u.core (At (Plain a) next) → GoesOn u next (after (turn sample ms steps image) u)

@@ -5,7 +5,6 @@ use native.Mathlib.Omega.{arith}
 use mathlib.Core.Path.{◌≡◌, refl}
 use mathlib.Core.Bool.{Bool, true, false}
 use mathlib.Core.List.{List, [], ◌∷◌}
-use lib.IntN.{ℤ}
 use lib.ListN.{length, take, length-take}
 use Rattle.parts.specs.Parts.{padded_text, most_bytes}
 use Rattle.parts.proofs.Laws.{cases, length-padded}
@@ -32,11 +31,7 @@ use Rattle.drive.proofs.FeedLaws.{frame-does}
 use Rattle.drive.specs.declared.StartAnswer.{StartAnswer}
 use Rattle.drive.proofs.StartLaws.{started-unit}
 use Rattle.drive.specs.Calls.{start_of, received_by, text_then, answer_to, turn_of}
-use Rattle.encoder.specs.Ratio.{microsteps}
-use Rattle.encoder.proofs.RatioLaws.{counts_fewer}
-use Rattle.motor.specs.Limits.{corrects}
-use Rattle.motor.specs.Corrections.{recovered}
-use Rattle.motor.specs.Deeds.{MotorLeads, same, waits, less, jogs-less, places, loses, recovers}
+use Rattle.motor.specs.Deeds.{MotorLeads, same, waits, less, places}
 use Rattle.keeping.specs.Deeds.{SettingsLead, Does, goes, ends, Steps, keeps-text, enters-text}
 use Rattle.obeying.specs.Deeds.{Tells, nothing-told, text-told, position-told, speed-told, sample-told, endless-told, step_size_told, correction-told}
 use Rattle.obeying.proofs.SizeLaws.{step_size_fits}
@@ -57,22 +52,18 @@ unfolding counted room
 counted-fits true p steps h = omega arith
 counted-fits false p steps h = omega arith
 
-reported-fits : (sample steps : ℕ) (count : ℤ) (m : Motor) → sample ≤ widest → FitsMotor m → FitsMotor (reported sample steps count m)
+reported-fits : (sample steps : ℕ) (m : Motor) → sample ≤ widest → FitsMotor m → FitsMotor (reported sample steps m)
 unfolding reported
-reported-fits sample steps count m h f = record {
+reported-fits sample steps m h f = record {
   position = cases (λ (p : ℕ). p ≤ widest) m.last.counts (λ e. counted-fits m.last.up m.position steps f.position) (λ e. f.position);
   sample = h;
 }
 
 motor-fits : {steps : ℕ} {m n : Motor} → FitsMotor m → MotorLeads steps m n → FitsMotor n
-unfolding recovered
 motor-fits f (same e) = f
 motor-fits f (waits w r) = f
 motor-fits f (less up left e) = f
-motor-fits f (jogs-less up left e) = f
-motor-fits f (places p n l) = record { position = omega arith; sample = f.sample }
-motor-fits f (loses e) = f
-motor-fits f (recovers e) = f
+motor-fits f (places p l) = record { position = omega arith; sample = f.sample }
 
 settings_fit : {s r : Settings} → FitsSettings s → SettingsLead s r → FitsSettings r
 settings_fit f d = record { speed = speed-fits d f.speed; correction = correction-fits d f.correction }
@@ -124,15 +115,15 @@ fits_kept = record {
   fresh = record { text = padded-fits []; core = fresh-fits };
   held = record { text = padded-fits []; core = ended-fits 1 fresh_core fresh-fits };
   obeys = λ {body} {text} h d. obeys_fits text h d;
-  turns = λ {sample} {steps} count {text} {image} {c} f l r d. steps-fits text
-      (record { text = f.text; core = record { motor = reported-fits sample steps count c.motor (omega arith) f.core.motor; settings = f.core.settings; endless = f.core.endless } }) d;
+  turns = λ {sample} {steps} {text} {image} {c} f l r d. steps-fits text
+      (record { text = f.text; core = record { motor = reported-fits sample steps c.motor (omega arith) f.core.motor; settings = f.core.settings; endless = f.core.endless } }) d;
 }
 
 pub start_fits : (number : ℕ) (image body text : List ℕ) → (start_of number image body text).answer ≡ StartAnswer.Started
     → Fits (start_of number image body text).unit
 start_fits number image body text e = rw (started-unit number image body text e) ((calls_keep fits_kept).starts number image body)
 
-pub turn-fits : (u : Drive) (sample ms steps : ℕ) (count : ℤ) (image : List ℕ) → Fits u → Fits (turn_of u sample ms steps count image).unit
+pub turn-fits : (u : Drive) (sample ms steps : ℕ) (image : List ℕ) → Fits u → Fits (turn_of u sample ms steps image).unit
 turn-fits = (calls_keep fits_kept).turns
 
 -- ---- what is told: no longer than a packet may be
@@ -146,10 +137,7 @@ FitsTell Tell.Text = Unit
 tells-fits : {c : Core} {t : Tell} → FitsCore c → Tells c t → FitsTell t
 tells-fits f nothing-told = tt
 tells-fits f text-told = tt
-tells-fits {c} f position-told =
-    let few = counts_fewer c.settings.ratio (microsteps c.motor.position) in
-    let high = f.motor.position in
-    cases (λ (p : ℕ). p ≤ widest) (corrects c.settings.mode) (λ e. omega (arith, few, high)) (λ e. high)
+tells-fits f position-told = f.motor.position
 tells-fits f speed-told = f.settings.speed
 tells-fits f sample-told = f.motor.sample
 tells-fits f endless-told = f.endless
@@ -191,7 +179,7 @@ FitsOutcome (answer bytes) = (1 ≤ length bytes) × (length bytes ≤ packet_by
 
 module _ (s : State) (f : Fits s.unit) where
   stepped-fits : (r : Received) → Fits (stepped r s).state.unit
-  stepped-fits r = obeys_fits s.unit.text f (frame-does r.frame (body_heard r s) s.image s.unit.core)
+  stepped-fits r = obeys_fits s.unit.text f (frame-does r.frame (body_heard r s) s.unit.core)
 
   outcome_fits : (r : Received) → FitsOutcome (stepped r s).outcome
   outcome_fits r = go r.frame refl
@@ -200,7 +188,7 @@ module _ (s : State) (f : Fits s.unit) where
       go Frame.Nothing e = rw e tt
       go Frame.Alone e =
           let o = obeyed_in r s in
-          let a = answer-fits r.framing o (text_then (body_heard r s) o s.unit.text) (stepped-fits r).text (told-fits f.core (frame-does r.frame (body_heard r s) s.image s.unit.core)) in
+          let a = answer-fits r.framing o (text_then (body_heard r s) o s.unit.text) (stepped-fits r).text (told-fits f.core (frame-does r.frame (body_heard r s) s.unit.core)) in
           rw e (rw e at a)
       go Frame.Group e = rw e tt
 
@@ -218,4 +206,4 @@ pub course_fits : (s : State) (es : List Event) → Fits s.unit → Fits (stretc
 unfolding stretch
 course_fits s [] f = f
 course_fits s (byte b ∷ es) f = course_fits (byte_step s b).state es (step_fits s f b)
-course_fits s (turn sample ms steps count ∷ es) f = course_fits (after_turn s sample ms steps count) es (turn-fits s.unit sample ms steps count s.image f)
+course_fits s (turn sample ms steps ∷ es) f = course_fits (after_turn s sample ms steps) es (turn-fits s.unit sample ms steps s.image f)

@@ -4,17 +4,16 @@ use Prim.Native.Nat.{ℕ, ◌+◌}
 use mathlib.Core.Path.{◌≡◌, refl, sym, ap, subst, ◌∙◌}
 use mathlib.Core.List.{List, [], ◌∷◌, ◌++◌}
 use mathlib.Core.Bool.{Bool, true, false, cond, not, ◌||◌, and-eq-true_iff, true≢false}
-use lib.IntN.{ℤ}
 use lib.ListN.{length, take}
 use lib.Dec.{ltb, eqb}
 use borrow.Author.Tests.{le-ltb, eqb-true}
-use Rattle.parts.specs.Parts.{same, put_in, most_bytes}
+use Rattle.parts.specs.Parts.{same, put_in}
 use Rattle.parts.proofs.Laws.{cases, same_is}
 use Rattle.parts.specs.Letters.{cr, etx}
 use Rattle.answers.specs.Packet.{packet_bytes, status_of}
 use Rattle.commands.specs.Table as table
 use Rattle.lines.specs.Bodies.{immediates, one_of_bodies, immediate_in, body_of}
-use Rattle.image.specs.Image.{right_length, image_by}
+use Rattle.image.specs.Image.{right_length, slots, slots_older}
 use Rattle.frames.specs.declared.Frame.{Frame}
 use Rattle.frames.specs.declared.Framing.{Framing}
 use Rattle.frames.specs.Addresses.{is_unit, called_of}
@@ -26,7 +25,7 @@ use Rattle.frames.proofs.Alike.{as_if_not_come}
 use Rattle.turns.specs.declared.Core.{Core}
 use Rattle.obeying.specs.declared.Tell.{Tell}
 use Rattle.obeying.specs.declared.Obeyed.{Obeyed}
-use Rattle.obeying.specs.Obeying.{telling, body_obeyed, data_of, text_written, image_written, held_to}
+use Rattle.obeying.specs.Obeying.{telling, body_obeyed, data_of, text_written, image_written}
 use Rattle.drive.specs.declared.FeedAnswer.{FeedAnswer}
 use Rattle.drive.specs.declared.Last.{Last}
 use Rattle.drive.specs.Unit.{Drive}
@@ -38,14 +37,14 @@ use Rattle.stream.specs.Oem.{moved_to, Heeded, SkippedBy, PassesOver, RepeatedBy
 -- ---- a call that is not refused
 
 feed_is : (u : Drive) (bytes image buffer : List ℕ) → Heeded image buffer
-    → feed_of u bytes image buffer ≡ feed_taken (received_by u bytes) (body_by u bytes) (obeyed_by u bytes image) u image buffer
+    → feed_of u bytes image buffer ≡ feed_taken (received_by u bytes) (body_by u bytes) (obeyed_by u bytes) u image buffer
 unfolding feed_of
 feed_is u bytes image buffer h = rw (le-ltb (length buffer) packet_bytes h.buffer_right, h.image_right)
 
 -- ---- a skipped frame
 
 taken-nothing : (r : Received) (body : List ℕ) (u : Drive) (image buffer : List ℕ) (n : ℕ) → r.frame ≡ Frame.Nothing → r.consumed ≡ n
-    → feed_taken r body (frame_obeyed r.frame body image u.core) u image buffer
+    → feed_taken r body (frame_obeyed r.frame body u.core) u image buffer
     ≡ record { answer = FeedAnswer.Taken; unit = moved_to r.receiver u; consumed = n; answered = 0; image = image; buffer = buffer }
 taken-nothing r body u image buffer n f e = rw (f, e, put-nothing buffer)
 
@@ -63,7 +62,7 @@ skips u a q body c image buffer h l f n =
 -- what a call makes is read off the frame, the framing and the body; the receiver and the count are beside it
 abbrev made : Drive → List ℕ → List ℕ → Receiver → ℕ → Frame → Framing → List ℕ → Feeding
 made u image buffer r n f g b =
-    feed_taken (record { receiver = r; consumed = n; frame = f; framing = g }) (chosen u.last g b) (frame_obeyed f (chosen u.last g b) image u.core) u image buffer
+    feed_taken (record { receiver = r; consumed = n; frame = f; framing = g }) (chosen u.last g b) (frame_obeyed f (chosen u.last g b) u.core) u image buffer
 
 made_alike : (u : Drive) (image buffer : List ℕ) (r : Receiver) (n : ℕ) (f : Frame) (g : Framing) (b b' : List ℕ) → (ours f ≡ true → b ≡ b')
     → made u image buffer r n f g b ≡ made u image buffer r n f g b'
@@ -140,11 +139,10 @@ chosen_is last g body e = rw e
 chosen-tells : (b : List ℕ) (c : Core) → Tellings c (body_obeyed (cond (is_query b) b []) c)
 chosen-tells b c = cases (λ (x : List ℕ). Tellings c (body_obeyed x c)) (is_query b) (λ e. query_tells b c e) (λ e. empty-tells c)
 
--- nothing is to be written, so there is room for it
-frame-tells : (f : Frame) (b image : List ℕ) (c : Core) → Tellings c (body_obeyed b c) → Tellings c (frame_obeyed f b image c)
-frame-tells Frame.Nothing b image c t = record { told = Tell.Nothing; tells = refl }
-frame-tells Frame.Alone b image c t = record { told = t.told; tells = ap (held_to b image c) t.tells }
-frame-tells Frame.Group b image c t = record { told = t.told; tells = ap (held_to b image c) t.tells }
+frame-tells : (f : Frame) (b : List ℕ) (c : Core) → Tellings c (body_obeyed b c) → Tellings c (frame_obeyed f b c)
+frame-tells Frame.Nothing b c t = record { told = Tell.Nothing; tells = refl }
+frame-tells Frame.Alone b c t = t
+frame-tells Frame.Group b c t = t
 
 -- its number is the last already
 number_same : (g : Framing) (code : ℕ) (last : Last) → is_repeat last g ≡ true → numbered_by g code last ≡ last
@@ -171,14 +169,14 @@ pub repeats_tell : (u : Drive) (bytes image buffer : List ℕ) → Heeded image 
 repeats_tell u bytes image buffer h e =
     let r = received_by u bytes in
     let b = body_in r.receiver in
-    let afresh : obeyed_by u bytes image ≡ frame_obeyed r.frame (cond (is_query b) b []) image u.core =
-    ap (λ (x : List ℕ). frame_obeyed r.frame x image u.core) (chosen_is u.last r.framing b e) in
-    let t = frame-tells r.frame (cond (is_query b) b []) image u.core (chosen-tells b u.core) in
-    let tells : obeyed_by u bytes image ≡ telling t.told u.core = afresh ∙ t.tells in
+    let afresh : obeyed_by u bytes ≡ frame_obeyed r.frame (cond (is_query b) b []) u.core =
+    ap (λ (x : List ℕ). frame_obeyed r.frame x u.core) (chosen_is u.last r.framing b e) in
+    let t = frame-tells r.frame (cond (is_query b) b []) u.core (chosen-tells b u.core) in
+    let tells : obeyed_by u bytes ≡ telling t.told u.core = afresh ∙ t.tells in
     let f = feed_is u bytes image buffer h in
     record {
-      unit-same = ap (λ (x : Feeding). x.unit) f ∙ told-unit r (body_by u bytes) (obeyed_by u bytes image) u image buffer t.told tells e;
-      image-same = ap (λ (x : Feeding). x.image) f ∙ told-image r (body_by u bytes) (obeyed_by u bytes image) u image buffer t.told tells;
+      unit-same = ap (λ (x : Feeding). x.unit) f ∙ told-unit r (body_by u bytes) (obeyed_by u bytes) u image buffer t.told tells e;
+      image-same = ap (λ (x : Feeding). x.image) f ∙ told-image r (body_by u bytes) (obeyed_by u bytes) u image buffer t.told tells;
       answers_as = afresh;
       told = t.told;
       tells = tells;
@@ -195,38 +193,38 @@ body_is : (u : Drive) (bytes : List ℕ) (g : Framing) (body : List ℕ) → (re
     → is_repeat u.last g ≡ false → body_by u bytes ≡ body
 body_is u bytes g body f k e = chosen-not u.last (received_by u bytes).framing (body_in (received_by u bytes).receiver) (rw f e) ∙ k
 
-obeyed_is : (u : Drive) (bytes image : List ℕ) (kind : Frame) (body : List ℕ) → (received_by u bytes).frame ≡ kind → body_by u bytes ≡ body
-    → obeyed_by u bytes image ≡ frame_obeyed kind body image u.core
-obeyed_is u bytes image kind body f b =
-    ap (λ (k : Frame). frame_obeyed k (body_by u bytes) image u.core) f ∙ ap (λ (x : List ℕ). frame_obeyed kind x image u.core) b
+obeyed_is : (u : Drive) (bytes : List ℕ) (kind : Frame) (body : List ℕ) → (received_by u bytes).frame ≡ kind → body_by u bytes ≡ body
+    → obeyed_by u bytes ≡ frame_obeyed kind body u.core
+obeyed_is u bytes kind body f b =
+    ap (λ (k : Frame). frame_obeyed k (body_by u bytes) u.core) f ∙ ap (λ (x : List ℕ). frame_obeyed kind x u.core) b
 
 module _ (u : Drive) (q : ℕ) (xs ys image buffer : List ℕ) (h : Heeded image buffer) (kinds : (received_by u xs).frame ≡ (received_by u ys).frame)
     (plain : (received_by u xs).framing ≡ Framing.Plain) (oem : (received_by u ys).framing ≡ Framing.Oem q) (b : body_by u xs ≡ body_by u ys)
-    (o : obeyed_by u xs image ≡ obeyed_by u ys image) where
+    (o : obeyed_by u xs ≡ obeyed_by u ys) where
   -- the text that the plain frame leaves, and what each is answered with
   abbrev left : List ℕ
-  left = text_then (body_by u xs) (obeyed_by u xs image) u.text
+  left = text_then (body_by u xs) (obeyed_by u xs) u.text
 
   abbrev answer_by : List ℕ → List ℕ
   answer_by bytes =
-      answer_for (received_by u bytes).frame (received_by u bytes).framing (obeyed_by u bytes image) (text_then (body_by u bytes) (obeyed_by u bytes image) u.text)
+      answer_for (received_by u bytes).frame (received_by u bytes).framing (obeyed_by u bytes) (text_then (body_by u bytes) (obeyed_by u bytes) u.text)
 
-  plain_is : (received_by u xs).frame ≡ Frame.Alone → answer_by xs ≡ answer_to Framing.Plain (obeyed_by u xs image) left
+  plain_is : (received_by u xs).frame ≡ Frame.Alone → answer_by xs ≡ answer_to Framing.Plain (obeyed_by u xs) left
   plain_is e =
-      ap (λ (f : Frame). answer_for f (received_by u xs).framing (obeyed_by u xs image) left) e ∙ ap (λ (g : Framing). answer_to g (obeyed_by u xs image) left) plain
+      ap (λ (f : Frame). answer_for f (received_by u xs).framing (obeyed_by u xs) left) e ∙ ap (λ (g : Framing). answer_to g (obeyed_by u xs) left) plain
 
-  oem_is : (received_by u xs).frame ≡ Frame.Alone → answer_by ys ≡ answer_to (Framing.Oem q) (obeyed_by u xs image) left
+  oem_is : (received_by u xs).frame ≡ Frame.Alone → answer_by ys ≡ answer_to (Framing.Oem q) (obeyed_by u xs) left
   oem_is e =
-      ap (λ (f : Frame). answer_for f (received_by u ys).framing (obeyed_by u ys image) (text_then (body_by u ys) (obeyed_by u ys image) u.text)) (sym kinds ∙ e)
-      ∙ ap (λ (g : Framing). answer_to g (obeyed_by u ys image) (text_then (body_by u ys) (obeyed_by u ys image) u.text)) oem
+      ap (λ (f : Frame). answer_for f (received_by u ys).framing (obeyed_by u ys) (text_then (body_by u ys) (obeyed_by u ys) u.text)) (sym kinds ∙ e)
+      ∙ ap (λ (g : Framing). answer_to g (obeyed_by u ys) (text_then (body_by u ys) (obeyed_by u ys) u.text)) oem
       ∙ ap (λ (x : Obeyed). answer_to (Framing.Oem q) x (text_then (body_by u ys) x u.text)) (sym o)
-      ∙ ap (λ (x : List ℕ). answer_to (Framing.Oem q) (obeyed_by u xs image) (text_then x (obeyed_by u xs image) u.text)) (sym b)
+      ∙ ap (λ (x : List ℕ). answer_to (Framing.Oem q) (obeyed_by u xs) (text_then x (obeyed_by u xs) u.text)) (sym b)
 
   answers-alike : (received_by u xs).frame ≡ Frame.Alone → SameAnswer u xs ys image buffer
   unfolding answer_to
   answers-alike e = record {
-    status = status_of (not (obeyed_by u xs image).core.running) (obeyed_by u xs image).code;
-    told = data_of (obeyed_by u xs image).tell (obeyed_by u xs image).core.flow.length left;
+    status = status_of (not (obeyed_by u xs).core.running) (obeyed_by u xs).code;
+    told = data_of (obeyed_by u xs).tell (obeyed_by u xs).core.flow.length left;
     plain-length = ap (λ (x : Feeding). x.answered) (feed_is u xs image buffer h) ∙ ap length (plain_is e);
     plain-packet = ap (λ (x : Feeding). x.buffer) (feed_is u xs image buffer h) ∙ ap (put_in buffer 0) (plain_is e);
     oem-length = ap (λ (x : Feeding). x.answered) (feed_is u ys image buffer h) ∙ ap length (oem_is e);
@@ -242,12 +240,12 @@ module _ (u : Drive) (q : ℕ) (xs ys image buffer : List ℕ) (h : Heeded image
         text_same =
             ap (λ (x : Feeding). x.unit.text) f
             ∙ ap (λ (x : Obeyed). text_written x.write (body_by u xs) u.text) o
-            ∙ ap (λ (x : List ℕ). text_written (obeyed_by u ys image).write x u.text) b
+            ∙ ap (λ (x : List ℕ). text_written (obeyed_by u ys).write x u.text) b
             ∙ sym (ap (λ (x : Feeding). x.unit.text) g);
         image-same =
             ap (λ (x : Feeding). x.image) f
             ∙ ap (λ (x : Obeyed). image_written x.write (body_by u xs) image) o
-            ∙ ap (λ (x : List ℕ). image_written (obeyed_by u ys image).write x image) b
+            ∙ ap (λ (x : List ℕ). image_written (obeyed_by u ys).write x image) b
             ∙ sym (ap (λ (x : Feeding). x.image) g);
         obeyed-same = o;
         answered-same = answers-alike;
@@ -266,22 +264,22 @@ same_deed u a q body image buffer h s l k g f e n =
     let bx : body_by u xs ≡ kept = body_is u xs Framing.Plain kept p.framed p.keeps refl in
     let by : body_by u ys ≡ kept = body_is u ys (Framing.Oem q) kept m.framed m.keeps n in
     let kind = called_of u.number a in
-    alike u q xs ys image buffer h (p.completes ∙ sym m.completes) p.framed m.framed (bx ∙ sym by) (obeyed_is u xs image kind kept p.completes bx ∙ sym (obeyed_is u ys image kind kept m.completes by))
+    alike u q xs ys image buffer h (p.completes ∙ sym m.completes) p.framed m.framed (bx ∙ sym by) (obeyed_is u xs kind kept p.completes bx ∙ sym (obeyed_is u ys kind kept m.completes by))
 
 -- ---- the number
 
-number-kept : (f : Frame) (g : Framing) (q code : ℕ) (last : Last) → ours f ≡ true → g ≡ Framing.Oem q
+number_kept_lem : (f : Frame) (g : Framing) (q code : ℕ) (last : Last) → ours f ≡ true → g ≡ Framing.Oem q
     → last_after f g code last ≡ cond (is_refusal code) last (Last.Number (sequence_number q))
-number-kept Frame.Nothing g q code last o e = absurd (true≢false (sym o))
-number-kept Frame.Alone g q code last o e = rw e
-number-kept Frame.Group g q code last o e = rw e
+number_kept_lem Frame.Nothing g q code last o e = absurd (true≢false (sym o))
+number_kept_lem Frame.Alone g q code last o e = rw e
+number_kept_lem Frame.Group g q code last o e = rw e
 
 pub numbers : (u : Drive) (bytes image buffer : List ℕ) (q : ℕ) → Heeded image buffer → ours (received_by u bytes).frame ≡ true
     → (received_by u bytes).framing ≡ Framing.Oem q
-    → (feed_of u bytes image buffer).unit.last ≡ cond (is_refusal (obeyed_by u bytes image).code) u.last (Last.Number (sequence_number q))
+    → (feed_of u bytes image buffer).unit.last ≡ cond (is_refusal (obeyed_by u bytes).code) u.last (Last.Number (sequence_number q))
 numbers u bytes image buffer q h o e =
     ap (λ (x : Feeding). x.unit.last) (feed_is u bytes image buffer h)
-    ∙ number-kept (received_by u bytes).frame (received_by u bytes).framing q (obeyed_by u bytes image).code u.last o e
+    ∙ number_kept_lem (received_by u bytes).frame (received_by u bytes).framing q (obeyed_by u bytes).code u.last o e
 
 plain-same : (f : Frame) (g : Framing) (code : ℕ) (last : Last) → g ≡ Framing.Plain → last_after f g code last ≡ last
 plain-same Frame.Nothing g code last e = refl
@@ -294,23 +292,23 @@ unfolding feed_of
 plain-leaves u bytes image buffer e =
     cases Q (ltb (length buffer) packet_bytes) (λ b. refl)
     (λ b. cases Q (right_length image)
-    (λ i. plain-same (received_by u bytes).frame (received_by u bytes).framing (obeyed_by u bytes image).code u.last e) (λ i. refl))
+    (λ i. plain-same (received_by u bytes).frame (received_by u bytes).framing (obeyed_by u bytes).code u.last e) (λ i. refl))
   where
     Q : Feeding → Type 0
     Q x = x.unit.last ≡ u.last
 
 -- a start that is refused leaves no unit, and no number
-pub none-at-start : (number : ℕ) (image body text : List ℕ) → (start_of number image body text).unit.last ≡ Last.Never
+pub none_at_start : (number : ℕ) (image body text : List ℕ) → (start_of number image body text).unit.last ≡ Last.Never
 unfolding start_of fresh_unit no_unit
-none-at-start number image body text =
-    cases Q (is_unit number) (λ n. cases Q (right_length image) (λ l. cases Q (image_by most_bytes image) (λ g. refl) (λ g. refl)) (λ l. refl)) (λ n. refl)
+none_at_start number image body text =
+    cases Q (is_unit number) (λ n. cases Q (right_length image) (λ l. cases Q (slots_older image slots) (λ g. refl) (λ g. refl)) (λ l. refl)) (λ n. refl)
   where
     Q : Starting → Type 0
     Q s = s.unit.last ≡ Last.Never
 
-pub turn-leaves : (u : Drive) (sample ms steps : ℕ) (count : ℤ) (image : List ℕ) → (turn_of u sample ms steps count image).unit.last ≡ u.last
+pub turn-leaves : (u : Drive) (sample ms steps : ℕ) (image : List ℕ) → (turn_of u sample ms steps image).unit.last ≡ u.last
 unfolding turn_of
-turn-leaves u sample ms steps count image =
+turn-leaves u sample ms steps image =
     cases Q (right_length image) (λ i. cases Q (ltb most_sample sample) (λ s. refl) (λ s. cases Q (ltb u.core.motor.last.number steps) (λ k. refl) (λ k. refl))) (λ i. refl)
   where
     Q : Turning → Type 0

@@ -1,6 +1,6 @@
 -- The OEM framing: what a skipped frame leaves, what a repeat changes, and that a frame of either framing does the same. 02, E1.
 -- Assumes nothing.
-use Rattle.std.specs.Prelude.{ℕ, ◌+◌, ◌≤◌, ◌≡◌, List, [], ◌∷◌, ◌++◌, true, false, cond, ℤ, length}
+use Rattle.std.specs.Prelude.{ℕ, ◌+◌, ◌≤◌, ◌≡◌, List, [], ◌∷◌, ◌++◌, true, false, cond, length}
 use Rattle.parts.specs.Parts.{put_in}
 use Rattle.parts.specs.Letters.{cr, etx}
 use Rattle.answers.specs.Packet.{packet, packet_bytes}
@@ -56,11 +56,11 @@ pub record RepeatedBy (u : Drive) (bytes image buffer : List ℕ) : Type 0 where
   pub unit-same : (feed_of u bytes image buffer).unit ≡ moved_to (received_by u bytes).receiver u
   pub image-same : (feed_of u bytes image buffer).image ≡ image
   -- "is answered as an empty body, or, if a query other than `?9`, by that query afresh"
-  pub answers_as : obeyed_by u bytes image
-      ≡ frame_obeyed (received_by u bytes).frame (cond (is_query (body_in (received_by u bytes).receiver)) (body_in (received_by u bytes).receiver) []) image u.core
+  pub answers_as : obeyed_by u bytes
+      ≡ frame_obeyed (received_by u bytes).frame (cond (is_query (body_in (received_by u bytes).receiver)) (body_in (received_by u bytes).receiver) []) u.core
   -- a packet with the held code
   pub told : Tell
-  pub tells : obeyed_by u bytes image ≡ telling told u.core
+  pub tells : obeyed_by u bytes ≡ telling told u.core
 
 -- two calls, of a plain frame and of an OEM one, that are answered with one status and one data, each in its framing
 pub record SameAnswer (u : Drive) (xs ys image buffer : List ℕ) : Type 0 where
@@ -76,7 +76,7 @@ pub record SameDeed (u : Drive) (xs ys image buffer : List ℕ) : Type 0 where
   pub core-same : (feed_of u xs image buffer).unit.core ≡ (feed_of u ys image buffer).unit.core
   pub text_same : (feed_of u xs image buffer).unit.text ≡ (feed_of u ys image buffer).unit.text
   pub image-same : (feed_of u xs image buffer).image ≡ (feed_of u ys image buffer).image
-  pub obeyed-same : obeyed_by u xs image ≡ obeyed_by u ys image
+  pub obeyed-same : obeyed_by u xs ≡ obeyed_by u ys
   pub answered-same : (received_by u xs).frame ≡ Frame.Alone → SameAnswer u xs ys image buffer
 
 pub record OemClaims : Type 0 where
@@ -97,9 +97,9 @@ pub record OemClaims : Type 0 where
   -- "the last OEM frame for this unit or its groups not refused": its number is kept, of no other frame
   pub numbers : (u : Drive) (bytes image buffer : List ℕ) (q : ℕ) → Heeded image buffer → ours (received_by u bytes).frame ≡ true
       → (received_by u bytes).framing ≡ Framing.Oem q
-      → (feed_of u bytes image buffer).unit.last ≡ cond (is_refusal (obeyed_by u bytes image).code) u.last (Last.Number (sequence_number q))
+      → (feed_of u bytes image buffer).unit.last ≡ cond (is_refusal (obeyed_by u bytes).code) u.last (Last.Number (sequence_number q))
   -- "(at start there is none)"; plain frames and turns leave it
-  pub none-at-start : (number : ℕ) (image body text : List ℕ) → (start_of number image body text).unit.last ≡ Last.Never
+  pub none_at_start : (number : ℕ) (image body text : List ℕ) → (start_of number image body text).unit.last ≡ Last.Never
   pub plain-leaves : (u : Drive) (bytes image buffer : List ℕ) → (received_by u bytes).framing ≡ Framing.Plain
       → (feed_of u bytes image buffer).unit.last ≡ u.last
-  pub turn-leaves : (u : Drive) (sample ms steps : ℕ) (count : ℤ) (image : List ℕ) → (turn_of u sample ms steps count image).unit.last ≡ u.last
+  pub turn-leaves : (u : Drive) (sample ms steps : ℕ) (image : List ℕ) → (turn_of u sample ms steps image).unit.last ≡ u.last

@@ -1,14 +1,42 @@
--- Laws of a motor that goes on or stops: the one that stops ends the run with its code. Assumes nothing.
-use Prim.Native.Nat.{ℕ}
+-- Laws of `A P D`: with which code an `A` stops, whatever its number, and that a motor that stops ends the run with its code.
+-- Assumes nothing.
+use Prim.Native.Nat.{ℕ, ◌-◌, ◌<◌}
 use mathlib.Core.Path.{◌≡◌, refl}
 use mathlib.Core.Bool.{Bool, true, false}
 use native.Mathlib.Omega.{arith}
+use lib.Dec.{ltb, eqb}
+use borrow.Author.Tests.{le-ltb, ne_eqb}
+use Rattle.parts.proofs.Laws.{cases}
+use Rattle.commands.specs.Table.{top}
+use Rattle.motor.specs.declared.Motor.{Motor}
 use Rattle.motor.specs.declared.Moved.{Moved}
 use Rattle.motor.specs.declared.Moved.TheVariants.{Goes, Stops}
+use Rattle.motor.specs.Motion.{room, absolute, if_known}
+use Rattle.motor.proofs.StopLaws.{finite-stops, finite-leaves}
 use Rattle.turns.specs.declared.Core.{Core}
 use Rattle.turns.specs.Turns.{ended, moved}
 
--- nothing is both
+-- ---- `A`, whatever its number
+
+pub absolute-stops : (n : ℕ) (m : Motor) {k : ℕ} → absolute n m ≡ Stops k → (k ≡ 11) × (m.position < n) × (top < n)
+unfolding absolute room
+absolute-stops n m {k} =
+    cases (λ (r : Moved). r ≡ Stops k → (k ≡ 11) × (m.position < n) × (top < n)) (eqb n m.position)
+    (λ q e. absurd (never e))
+    (λ q. cases (λ (r : Moved). r ≡ Stops k → (k ≡ 11) × (m.position < n) × (top < n)) (ltb n m.position)
+    (λ l e. let h = (finite-stops false (m.position - n) m e).1 in absurd (omega arith))
+    (λ l e. let h = finite-stops true (n - m.position) m e in (h.0, omega (arith, h.1), omega (arith, h.1))))
+  where
+    never : Goes m ≡ Stops k → ⊥
+    never e = let z : ◌≡◌ {A = ℕ} 0 1 = cc in omega arith
+
+pub absolute-leaves : (n : ℕ) (m : Motor) → m.position < n → top < n → absolute n m ≡ Stops 11
+unfolding absolute room
+absolute-leaves n m h l =
+    rw (ne_eqb n m.position (λ e. omega arith), le-ltb n m.position (omega arith)) (finite-leaves true (n - m.position) m (omega arith))
+
+-- ---- the run after a motor that goes on, or stops
+
 pub clash : {A : Type 0} {b : Bool} → b ≡ true → b ≡ false → A
 clash h q = let z : ◌≡◌ {A = ℕ} 0 1 = cc in absurd (omega arith)
 
@@ -22,3 +50,12 @@ moved_ends P e (Stops k) h f q = f k refl
 pub moved-stops : (e : Core) (r : Moved) {k : ℕ} → r ≡ Stops k → ((moved r e).running ≡ false) × ((moved r e).code ≡ k)
 unfolding ended
 moved-stops e r s = rw s (refl, refl)
+
+-- `A`, `P` or `D`, with the position known and unknown
+pub known_stop : (e : Core) (m : Motor) (r : Moved) {k : ℕ} → m.known ≡ true → r ≡ Stops k
+    → ((moved (if_known m r) e).running ≡ false) × ((moved (if_known m r) e).code ≡ k)
+known_stop e m r h s = moved-stops e (if_known m r) (rw h s)
+
+pub unknown_stop : (e : Core) (m : Motor) (r : Moved) → m.known ≡ false
+    → ((moved (if_known m r) e).running ≡ false) × ((moved (if_known m r) e).code ≡ 7)
+unknown_stop e m r h = moved-stops e (if_known m r) (rw h)

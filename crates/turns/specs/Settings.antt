@@ -1,11 +1,11 @@
 -- The settings of a unit: a line each for its place in the record and for its default; and how a command sets one. 01, "Lines" (table) and "Defaults".
 -- Assumes nothing.
-use Rattle.std.specs.Prelude.{ℕ, Bool, cond}
+use Rattle.std.specs.Prelude.{ℕ, Bool, cond, eqb}
 use Rattle.commands.specs.declared.Setting.{Setting}
-use Rattle.commands.specs.declared.Setting.TheVariants.{TopSpeed, Acceleration, FlagLevel, Turned, MoveCurrent, HoldCurrent, StepSize, Correction, Outputs, Baud, Mode, Distance, Allowed, Ratio, Tries}
+use Rattle.commands.specs.declared.Setting.TheVariants.{TopSpeed, Acceleration, FlagLevel, Turned, MoveCurrent, HoldCurrent, StepSize, Correction, Outputs, Baud}
 use Rattle.commands.specs.declared.Exponent.{Exponent}
 use Rattle.commands.specs.declared.Exponent.TheVariants.{Power, NoPower}
-use Rattle.commands.specs.Table.{setting_name, same_name, exponent_of}
+use Rattle.commands.specs.Table.{setting_letter, exponent_of}
 use Rattle.turns.specs.declared.setting.Settings.{Settings}
 
 -- the record of a number for each setting
@@ -21,11 +21,6 @@ settings_by f = record {
   correction = f Correction;
   outputs = f Outputs;
   baud = f Baud;
-  mode = f Mode;
-  distance = f Distance;
-  allowed = f Allowed;
-  ratio = f Ratio;
-  tries = f Tries;
 }
 
 -- the number of a setting in the record
@@ -40,13 +35,8 @@ setting_of StepSize s = s.exponent
 setting_of Correction s = s.correction
 setting_of Outputs s = s.outputs
 setting_of Baud s = s.baud
-setting_of Mode s = s.mode
-setting_of Distance s = s.distance
-setting_of Allowed s = s.allowed
-setting_of Ratio s = s.ratio
-setting_of Tries s = s.tries
 
--- "Defaults: V 305175, L 1000, j 256, o 1500, m 25, h 10, .. all else 0, baud 9600"; 256 is 2 to the 8; 02, E11: "the three start at their least"
+-- "Defaults: V 305175, L 1000, j 256, o 1500, m 25, h 10, .. all else 0, baud 9600"; 256 is 2 to the 8
 abbrev pub default_of : Setting → ℕ
 default_of TopSpeed = 305175
 default_of Acceleration = 1000
@@ -58,18 +48,13 @@ default_of StepSize = 8
 default_of Correction = 1500
 default_of Outputs = 0
 default_of Baud = 9600
-default_of Mode = 0
-default_of Distance = 0
-default_of Allowed = 1
-default_of Ratio = 1000
-default_of Tries = 1
 
 unfoldable pub defaults : Settings
 defaults = settings_by default_of
 
--- settings are told apart by their names
+-- settings are told apart by their letters
 abbrev pub same_setting : Setting → Setting → Bool
-same_setting a b = same_name (setting_name a) (setting_name b)
+same_setting a b = eqb (setting_letter a) (setting_letter b)
 
 -- a checked text has powers only
 abbrev pub exponent_or : ℕ → Exponent → ℕ

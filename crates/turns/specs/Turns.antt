@@ -1,14 +1,12 @@
 -- A turn: one wait served, or one command taken. 01, "A turn".
 -- Assumes nothing.
-use Rattle.std.specs.Prelude.{ℕ, List, Bool, true, false, cond, length, take, eqb, ℤ}
+use Rattle.std.specs.Prelude.{ℕ, List, Bool, true, false, cond, length, take, eqb}
 use Prim.Native.String.{String}
 use Rattle.parts.specs.Parts.{padded_text}
 use Rattle.commands.specs.declared.Command.{Command}
 use Rattle.commands.specs.declared.Command.TheVariants.{LoopBegin, LoopEnd, Skip, Jump, Plain}
 use Rattle.commands.specs.declared.Act.{Act}
-use Rattle.commands.specs.declared.Act.TheVariants.{MoveTo, MoveUp, MoveDown, SetPosition, Home, Set, Delay, WaitInput, Recover}
-use Rattle.commands.specs.declared.Setting.{Setting}
-use Rattle.commands.specs.declared.Setting.TheVariants.{Mode}
+use Rattle.commands.specs.declared.Act.TheVariants.{MoveTo, MoveUp, MoveDown, SetPosition, Home, Set, Delay, WaitInput}
 use Rattle.commands.specs.declared.Read.{Read}
 use Rattle.commands.specs.declared.Read.TheVariants.{At, Bad, End}
 use Rattle.commands.specs.Reading.{read_at}
@@ -22,10 +20,7 @@ use Rattle.motor.specs.declared.Motor.{Motor}
 use Rattle.motor.specs.declared.Moved.{Moved}
 use Rattle.motor.specs.declared.Moved.TheVariants.{Goes, Stops}
 use Rattle.motor.specs.Inputs.{level_there}
-use Rattle.motor.specs.declared.Switches.{Switches}
-use Rattle.motor.specs.Motion.{waiting, placed_at, reported, is_free, answered, delayed, held, stopped, fresh_motor}
-use Rattle.motor.specs.Jogs.{home_taken, idled}
-use Rattle.motor.specs.Corrections.{absolute_taken, relative_taken, place_taken, mode_taken, recovered, served_on}
+use Rattle.motor.specs.Motion.{waiting, placed_at, reported, is_free, answered, relative, absolute, if_known, homed, delayed, held, served, stopped, fresh_motor}
 use Rattle.turns.specs.declared.setting.Settings.{Settings}
 use Rattle.turns.specs.declared.Core.{Core}
 use Rattle.turns.specs.declared.Enter.{Enter}
@@ -34,7 +29,7 @@ use Rattle.turns.specs.declared.Stepped.{Stepped}
 use Rattle.turns.specs.declared.Direction.{Direction}
 use Rattle.turns.specs.declared.Direction.TheVariants.{Up, Down, Still}
 use Rattle.turns.specs.declared.Action.{Action}
-use Rattle.turns.specs.Settings.{defaults, same_setting, with_setting}
+use Rattle.turns.specs.Settings.{defaults, with_setting}
 
 -- ---- the core of a unit's record: all but its number, its receiver and its text
 
@@ -58,25 +53,13 @@ with_endless speed c = core c.flow c.motor c.settings c.running c.loaded c.code 
 unfoldable pub fresh_core : Core
 fresh_core = core (begun 0) fresh_motor defaults false false 0 0
 
--- what `f`, `n` and `B` say of the inputs, and `aC`, `aE` and `au` of the encoder
-abbrev pub switches_by : Settings → Switches
-switches_by s =
-    record { flag = s.flag; mode = s.mode; distance = s.distance; allowed = s.allowed; ratio = s.ratio; tries = s.tries }
-
-abbrev pub switches_of : Core → Switches
-switches_of c = switches_by c.settings
-
--- 02, E5: "any accepted line but a query ends it": an idle unit waits for nothing but a jog
-abbrev pub jog_ended : Core → Core
-jog_ended c = with_motor (waiting Wait.Nothing c.motor) c
-
 -- a run starts on a text of so many bytes; the held code is "set to 0 when a run starts"
 unfoldable pub started : ℕ → Core → Core
-started n c = core (begun n) (waiting Wait.Nothing c.motor) c.settings true false 0 c.endless
+started n c = core (begun n) c.motor c.settings true false 0 c.endless
 
--- a run ends, the held code is "set by a fault stop"; where it ends without one the code is 0
+-- a run ends, the held code is "set by a fault stop"
 unfoldable pub ended : ℕ → Core → Core
-ended code c = core c.flow (stopped code c.motor) c.settings false c.loaded code c.endless
+ended code c = core c.flow (stopped c.motor) c.settings false c.loaded code c.endless
 
 -- what only a text that was never checked could come to: the run ends, the held code stays
 unfoldable pub astray : Core → Core
@@ -97,21 +80,16 @@ speed_after n (Stops code) c = c.endless
 abbrev pub relative_moved : ℕ → Moved → Core → Core
 relative_moved n r c = with_endless (speed_after n r c) (moved r c)
 
--- 02, E11: "Setting or clearing `n8` makes the position unknown"
-abbrev pub motor_after : Setting → ℕ → Core → Motor
-motor_after which n c = cond (same_setting which Mode) (mode_taken c.settings.mode n c.motor) c.motor
-
 -- a plain command, behind which the flow stands already
 unfoldable pub acted : Act → Core → Core
-acted (MoveTo n) c = moved (absolute_taken (switches_of c) n c.motor) c
-acted (MoveUp n) c = relative_moved n (relative_taken (switches_of c) true n c.motor) c
-acted (MoveDown n) c = relative_moved n (relative_taken (switches_of c) false n c.motor) c
-acted (SetPosition n) c = moved (place_taken (switches_of c) n c.motor) c
-acted (Home n) c = moved (home_taken (switches_of c) n c.motor) c
-acted (Set which n) c = with_motor (motor_after which n c) (with_settings (with_setting which n c.settings) c)
+acted (MoveTo n) c = moved (if_known c.motor (absolute n c.motor)) c
+acted (MoveUp n) c = relative_moved n (if_known c.motor (relative true n c.motor)) c
+acted (MoveDown n) c = relative_moved n (if_known c.motor (relative false n c.motor)) c
+acted (SetPosition n) c = with_motor (placed_at n c.motor) c
+acted (Home n) c = with_motor (homed c.settings.flag n c.motor) c
+acted (Set which n) c = with_settings (with_setting which n c.settings) c
 acted (Delay n) c = with_motor (delayed n c.motor) c
 acted (WaitInput n) c = with_motor (held n c.motor) c
-acted Recover c = with_motor (recovered c.motor) c
 
 -- a loop's begin or end
 abbrev pub flowed : Flowed → Core → Core
@@ -163,26 +141,26 @@ read_taken End t image c = stays (ended c.code c)
 unfoldable pub running : ℕ → ℕ → ℕ → List ℕ → List ℕ → Core → Stepped
 running before ms steps t image c =
     cond (is_free c.motor.wait) (read_taken (read_at t c.flow.at) t image c)
-    (stays (moved (served_on c.motor.wait before (switches_of c) ms steps c.motor) c))
+    (stays (moved (served c.motor.wait before c.settings.flag ms steps c.motor) c))
 
--- an idle unit waits for nothing, but 02, E5: a jog may be on; "A jog is no run and sets no code"
-abbrev pub idle : ℕ → ℕ → Core → Stepped
-idle before steps c = stays (with_motor (idled (switches_of c) before steps c.motor) c)
+-- an idle unit waits for nothing
+abbrev pub idle : Core → Stepped
+idle c = stays (with_motor (waiting Wait.Nothing c.motor) c)
 
 -- the report counted first, then the wait or the command
-unfoldable pub step_of : ℕ → ℕ → ℕ → ℤ → List ℕ → List ℕ → Core → Stepped
-step_of sample ms steps count t image c =
+unfoldable pub step_of : ℕ → ℕ → ℕ → List ℕ → List ℕ → Core → Stepped
+step_of sample ms steps t image c =
     cond c.running
-    (running c.motor.sample ms steps t image (with_motor (reported sample steps count c.motor) c))
-    (idle c.motor.sample steps (with_motor (reported sample steps count c.motor) c))
+    (running c.motor.sample ms steps t image (with_motor (reported sample steps c.motor) c))
+    (idle (with_motor (reported sample steps c.motor) c))
 
 -- "and answers the next motor action", kept as the last one
 abbrev pub settled : Stepped → Stepped
 settled s = record { core = with_motor (answered s.core.motor) s.core; enter = s.enter }
 
 -- a whole turn of the core, over the current text and the image lent now
-unfoldable pub turn_core : ℕ → ℕ → ℕ → ℤ → List ℕ → List ℕ → Core → Stepped
-turn_core sample ms steps count text image c = settled (step_of sample ms steps count (take c.flow.length text) image c)
+unfoldable pub turn_core : ℕ → ℕ → ℕ → List ℕ → List ℕ → Core → Stepped
+turn_core sample ms steps text image c = settled (step_of sample ms steps (take c.flow.length text) image c)
 
 -- "makes the slot's text the current text"
 abbrev pub text_after : Enter → List ℕ → List ℕ → List ℕ

@@ -4,7 +4,7 @@ mod setting;
 mod taking;
 
 ghost use Rattle.std.specs.Prelude.{◌≡◌};
-ghost use Rattle.turns.specs.Turns.{with_flow, with_motor, with_settings, fresh_core, started, ended, running, idle, step_of, settled, turn_core, direction_of, action_answered};
+ghost use Rattle.turns.specs.Turns.{with_flow, with_motor, with_settings, fresh_core, started, ended, running, step_of, settled, turn_core, direction_of, action_answered};
 
 use flow::Flow;
 use motor::{Last, Motor};
@@ -71,10 +71,8 @@ pub fn fresh_core() -> Core
 pub fn start_run(c: Core, length: usize) -> Core
     ensures { result ≡ started length c }
 {
-    let m = c.motor;
     let mut d = c;
     d.flow = flow::begin(length);
-    d.motor = motor::resume(m);
     d.running = true;
     d.loaded = false;
     d.code = 0;
@@ -87,7 +85,7 @@ pub fn end_run(c: Core, code: u8) -> Core
 {
     let m = c.motor;
     let mut d = c;
-    d.motor = motor::stop(m, code);
+    d.motor = motor::stop(m);
     d.running = false;
     d.code = code;
     d
@@ -126,54 +124,28 @@ fn run_on(c: Core, before: u8, ms: u32, steps: u32, text: &[u8], image: &[u8]) -
     if motor::is_free(w) {
         return taking::take_next(c, text, image);
     }
-    taking::stay(acting::move_on(
-        c,
-        motor::serve(m, before, setting::switches_of(c), ms, steps),
-    ))
+    taking::stay(acting::move_on(c, motor::serve(m, before, setting::flag_of(c), ms, steps)))
 }
 
 // The report counted, then the wait or the command.
-fn step(c: Core, sample: u8, ms: u32, steps: u32, count: i32, text: &[u8], image: &[u8]) -> Stepped
-    ensures { result ≡ step_of sample ms steps count text.now image.now c }
+fn step(c: Core, sample: u8, ms: u32, steps: u32, text: &[u8], image: &[u8]) -> Stepped
+    ensures { result ≡ step_of sample ms steps text.now image.now c }
 {
     let m = c.motor;
-    let d = set_motor(c, motor::report(m, sample, steps, count));
+    let d = set_motor(c, motor::report(m, sample, steps));
     if c.running {
         return run_on(d, m.sample, ms, steps, text, image);
     }
-    idle_on(d, m.sample, steps)
-}
-
-// A turn of an idle unit, the report counted.
-fn idle_on(c: Core, before: u8, steps: u32) -> Stepped
-    ensures { result ≡ idle before steps c }
-{
-    let m = c.motor;
-    taking::stay(set_motor(c, motor::idle(m, setting::switches_of(c), before, steps)))
+    let n = d.motor;
+    taking::stay(set_motor(d, motor::resume(n)))
 }
 
 // A whole turn of the core, over the current text and the image.
-pub fn turn_core(
-    c: Core,
-    sample: u8,
-    ms: u32,
-    steps: u32,
-    count: i32,
-    text: &[u8],
-    image: &[u8],
-) -> Stepped
-    ensures { result ≡ turn_core sample ms steps count text.now image.now c }
+pub fn turn_core(c: Core, sample: u8, ms: u32, steps: u32, text: &[u8], image: &[u8]) -> Stepped
+    ensures { result ≡ turn_core sample ms steps text.now image.now c }
 {
     let f = c.flow;
-    settle(step(
-        c,
-        sample,
-        ms,
-        steps,
-        count,
-        parts::first(text, f.length),
-        image,
-    ))
+    settle(step(c, sample, ms, steps, parts::first(text, f.length), image))
 }
 
 // The next motor action answered, and kept as the last one.

@@ -1,14 +1,12 @@
 // The settings of a unit: what each is at a fresh start, and how each is set.
 ghost use Rattle.std.specs.Prelude.{◌≡◌};
 ghost use Rattle.commands.specs.Table.{exponent_of};
-ghost use Rattle.turns.specs.Settings.{defaults, exponent_or, same_setting, with_setting};
-ghost use Rattle.turns.specs.Turns.{switches_of};
+ghost use Rattle.turns.specs.Settings.{defaults, exponent_or, with_setting};
 
 use crate::Core;
 use commands::{Exponent, Setting};
-use motor::Switches;
 
-// V L f F m h j o J b n B aC aE au; of j the exponent.
+// V L f F m h j o J b; of j the exponent.
 #[derive(Drop)]
 pub struct Settings {
     pub speed: u32,
@@ -21,11 +19,6 @@ pub struct Settings {
     pub correction: u32,
     pub outputs: u32,
     pub baud: u32,
-    pub mode: u32,
-    pub distance: u32,
-    pub allowed: u32,
-    pub ratio: u32,
-    pub tries: u32,
 }
 
 // The settings of a fresh unit.
@@ -43,11 +36,6 @@ pub(crate) fn default_settings() -> Settings
         correction: 1500,
         outputs: 0,
         baud: 9600,
-        mode: 0,
-        distance: 0,
-        allowed: 1,
-        ratio: 1000,
-        tries: 1,
     }
 }
 
@@ -67,11 +55,6 @@ pub(crate) fn set(s: Settings, which: Setting, n: u32) -> Settings
         Setting::Correction => t.correction = n,
         Setting::Outputs => t.outputs = n,
         Setting::Baud => t.baud = n,
-        Setting::Mode => t.mode = n,
-        Setting::Distance => t.distance = n,
-        Setting::Allowed => t.allowed = n,
-        Setting::Ratio => t.ratio = n,
-        Setting::Tries => t.tries = n,
     }
     t
 }
@@ -86,28 +69,10 @@ fn exponent_kept(before: u32, n: u32) -> u32
     e
 }
 
-// What f, n and B say of the inputs, and aC, aE and au of the encoder.
-pub(crate) fn switches_of(c: Core) -> Switches
-    ensures { result ≡ switches_of c }
+// The setting f.
+pub(crate) fn flag_of(c: Core) -> u32
+    ensures { result ≡ c.settings.flag }
 {
     let s = c.settings;
-    Switches {
-        flag: s.flag,
-        mode: s.mode,
-        distance: s.distance,
-        allowed: s.allowed,
-        ratio: s.ratio,
-        tries: s.tries,
-    }
-}
-
-// Whether a setting is n.
-pub(crate) fn is_mode(which: Setting) -> bool
-    ensures { result ≡ same_setting which Setting.Mode }
-{
-    let name = commands::name_of(which);
-    if name.letter == b'n' {
-        return name.second == 0;
-    }
-    false
+    s.flag
 }

@@ -5,20 +5,15 @@ use std::io::Write;
 
 use crate::count::{self, Uncounted};
 use crate::course::{self, End};
-use crate::differ::{self, Difference, PairRefusal};
-use crate::fill::{fill, FillRefusal};
 use crate::host::{self, HostRefusal, Item};
 use crate::image;
-use crate::jog::Jog;
 use crate::line;
 use crate::listen::Table;
-use crate::moved::{self, MoveRefusal};
 use crate::older;
 use crate::packet::{self, Packet};
 use crate::ramp::{self, Length, RampRefusal};
 use crate::shared::Way;
-use crate::small;
-use crate::turn::{Direction, TurnRefusal};
+use crate::turn::TurnRefusal;
 use crate::unit::{FeedRefusal, StartRefusal, Unit};
 
 /// Appends formatted text to bytes, which cannot fail.
@@ -40,24 +35,15 @@ const BLANK: u8 = 0xa5;
 const HELP: &str = "\
 image HEX : lend these bytes as the image
 image empty : lend the image with all slots empty
-image small : lend the small image with all slots empty
-move small N : move the texts of the image into a small one of N bytes
-move big N : move the texts of the small image into one of N bytes
 room N : lend an answer buffer of N bytes, each a5
 buffer : tell the answer buffer
 start N : start unit N
 feed HEX : feed these bytes
-turn SAMPLE MS STEPS COUNT : make one turn
+turn SAMPLE MS STEPS : make one turn
 run SAMPLE MS : make turns until the unit is idle or waits for an input
 timeline SAMPLE MS : the same, with a line for each turn
 unit : tell the unit
 store : tell the image
-fill : tell used slots and used bytes of the image, from its contents table
-other HEX : hold these bytes as the second image
-other empty : hold the image with all slots empty as the second
-other small : hold the small image with all slots empty as the second
-differ : list the slots whose texts differ in both images, each with its first differing place
-either SLOT : tell the text of a slot of the image, or of the second where that is empty
 line HEX : judge a body
 text HEX : judge a text to be stored
 ramp V L N : tell the ramp of N microsteps
@@ -77,8 +63,6 @@ help : tell the operations";
 #[derive(Clone, Debug)]
 pub struct Bench {
     image: Vec<u8>,
-    /// E13: "the second image held".
-    other: Vec<u8>,
     unit: Option<Unit>,
     buffer: [u8; LONGEST_ROOM],
     room: usize,
@@ -103,7 +87,6 @@ impl Bench {
     pub fn new() -> Self {
         Bench {
             image: image::empty().to_vec(),
-            other: image::empty().to_vec(),
             unit: None,
             buffer: [BLANK; LONGEST_ROOM],
             room: packet::PACKET,
@@ -120,11 +103,6 @@ impl Bench {
     /// The image that is lent.
     pub fn image(&self) -> &[u8] {
         &self.image
-    }
-
-    /// The second image.
-    pub fn other(&self) -> &[u8] {
-        &self.other
     }
 
     /// The bytes of the answer buffer that is lent.
@@ -151,16 +129,13 @@ impl Bench {
         let (word, fields) = cut(operation);
         match word {
             b"image" => self.lend_image(only(fields)?, out),
-            b"move" => self.move_texts(fields.ok_or(MISSING)?, out),
-            b"other" => self.hold_other(only(fields)?, out),
-            b"either" => self.either(only(fields)?, out),
             b"room" => self.lend_room(only(fields)?, out),
             b"start" => self.start(only(fields)?, out),
             b"feed" => self.feed(only(fields)?, out),
             b"turn" => self.turn(fields.ok_or(MISSING)?, out),
             b"run" => self.run(fields.ok_or(MISSING)?, false, out),
             b"timeline" => self.run(fields.ok_or(MISSING)?, true, out),
-            b"unit" | b"store" | b"fill" | b"differ" | b"buffer" | b"help" => self.tell(word, fields, out),
+            b"unit" | b"store" | b"buffer" | b"help" => self.tell(word, fields, out),
             b"line" => self.line(only(fields)?, out),
             b"text" => self.text(only(fields)?, out),
             b"ramp" => ramp(fields.ok_or(MISSING)?, out),
@@ -181,8 +156,6 @@ impl Bench {
             _ if fields.is_some() => return Err(TOO_MANY),
             b"unit" => self.tell_unit(out),
             b"store" => tell_bytes("store", &self.image, out),
-            b"fill" => tell_fill(&self.image, out),
-            b"differ" => tell_differ(&self.image, &self.other, out),
             b"buffer" => tell_bytes("buffer", &self.buffer[..self.room], out),
             _ => out.extend(HELP.as_bytes()),
         }
@@ -190,47 +163,17 @@ impl Bench {
     }
 
     fn lend_image(&mut self, field: &[u8], out: &mut Vec<u8>) -> Answered {
-        self.image = named_image(field)?;
-        say!(out, "image {}", self.image.len());
-        Ok(())
-    }
-
-    /// "the second image held (at first: 4,160 bytes, all slots empty)"
-    fn hold_other(&mut self, field: &[u8], out: &mut Vec<u8>) -> Answered {
-        self.other = named_image(field)?;
-        say!(out, "other {}", self.other.len());
-        Ok(())
-    }
-
-    /// "`either HEX`; `refused first-bad`, `refused second-bad`, `refused slot`"
-    fn either(&self, field: &[u8], out: &mut Vec<u8>) -> Answered {
-        match differ::either(&self.image, &self.other, number(field)?) {
-            Ok(text) => tell_bytes("either", text, out),
-            Err(refusal) => say!(out, "{}", pair_refusal(refusal)),
-        }
-        Ok(())
-    }
-
-    /// "moves the texts of the held image into a target of N bytes (a5 before)"
-    fn move_texts(&mut self, fields: &[u8], out: &mut Vec<u8>) -> Answered {
-        let (form, length) = cut(fields);
-        let length = number(only(length)?)? as usize;
-        let move_to = match form {
-            b"small" => moved::to_small,
-            b"big" => moved::to_big,
-            _ => return Err(Unreadable("neither small nor big")),
-        };
-        // A target of 4,200 bytes is refused as any longer one.
-        let mut target = vec![BLANK; length.min(LONGEST_IMAGE)];
-        match move_to(&self.image, &mut target) {
-            Ok(()) => {
-                say!(out, "moved {length}");
-                self.image = target;
+        if field == b"empty" {
+            self.image = image::empty().to_vec();
+        } else {
+            read_hex(field, &mut self.bytes)?;
+            if self.bytes.len() > LONGEST_IMAGE {
+                return Err(Unreadable("too many bytes"));
             }
-            Err(MoveRefusal::TargetLength) => say!(out, "refused target-length"),
-            Err(MoveRefusal::ImageBad) => say!(out, "refused image-bad"),
-            Err(MoveRefusal::Total) => say!(out, "refused total"),
+            self.image.clear();
+            self.image.extend(&self.bytes);
         }
+        say!(out, "image {}", self.image.len());
         Ok(())
     }
 
@@ -320,14 +263,12 @@ impl Bench {
     }
 
     fn turn(&mut self, fields: &[u8], out: &mut Vec<u8>) -> Answered {
-        let (sample, rest) = cut(fields);
-        let [elapsed, steps, count] = three(rest.ok_or(MISSING)?)?;
+        let [sample, elapsed, steps] = three(fields)?;
         let (sample, elapsed, steps) = (byte(sample)?, number(elapsed)?, number(steps)?);
-        let count = signed(count)?;
         let Some(unit) = &mut self.unit else {
             return no_unit(out);
         };
-        match unit.turn(&self.image, sample, elapsed, steps, count) {
+        match unit.turn(&self.image, sample, elapsed, steps) {
             Ok(action) => say!(out, "{}", course::told(action)),
             Err(refusal) => say!(out, "{}", turn_refusal(refusal)),
         }
@@ -368,15 +309,6 @@ impl Bench {
             None => say!(out, " last=-"),
         }
         say!(out, " speed={}", unit.endless_speed());
-        say!(out, " n={} B={}", set.modes, set.jog_distance);
-        match unit.jog().map(Jog::direction) {
-            None => say!(out, " jog=none"),
-            Some(Direction::Up) => say!(out, " jog=up"),
-            Some(Direction::Down) => say!(out, " jog=down"),
-        }
-        say!(out, " aC={} aE={} au={}", set.allowed, set.ratio.0, set.tries);
-        say!(out, " count={} encoder={}", unit.count(), unit.encoder().count());
-        say!(out, " overload={}", u8::from(unit.is_overloaded()));
         say!(out, " text=");
         write_hex(unit.text(), out);
     }
@@ -476,35 +408,6 @@ fn no_unit(out: &mut Vec<u8>) -> Answered {
     Ok(())
 }
 
-/// "`fill SLOTS BYTES`; `refused image-length`, `refused entry`"
-fn tell_fill(image: &[u8], out: &mut Vec<u8>) {
-    match fill(image) {
-        Ok(found) => say!(out, "fill {} {}", found.slots, found.bytes),
-        Err(FillRefusal::ImageLength) => say!(out, "refused image-length"),
-        Err(FillRefusal::Entry) => say!(out, "refused entry"),
-    }
-}
-
-/// "`differ SLOT:PLACE SLOT:PLACE` or `differ -`"
-fn tell_differ(first: &[u8], second: &[u8], out: &mut Vec<u8>) {
-    match differ::differ(first, second) {
-        Ok(found) if found.is_empty() => say!(out, "differ -"),
-        Ok(found) => {
-            say!(out, "differ");
-            found.iter().for_each(|Difference { slot, place }| say!(out, " {slot}:{place}"));
-        }
-        Err(refusal) => say!(out, "{}", pair_refusal(refusal)),
-    }
-}
-
-fn pair_refusal(refusal: PairRefusal) -> &'static str {
-    match refusal {
-        PairRefusal::FirstBad => "refused first-bad",
-        PairRefusal::SecondBad => "refused second-bad",
-        PairRefusal::Slot => "refused slot",
-    }
-}
-
 fn feed_refusal(refusal: FeedRefusal) -> &'static str {
     match refusal {
         FeedRefusal::Buffer => "refused buffer",
@@ -596,57 +499,37 @@ fn number(field: &[u8]) -> Result<u32, Unreadable> {
     field.iter().try_fold(0, add).ok_or(TOO_GREAT)
 }
 
-/// "COUNT signed, 32 bits": digits, and a `-` before them or none.
-fn signed(field: &[u8]) -> Result<i32, Unreadable> {
-    let count = match field.strip_prefix(b"-") {
-        Some(digits) => -i64::from(number(digits)?),
-        None => number(field)?.into(),
-    };
-    count.try_into().map_err(|_| TOO_GREAT)
-}
-
 /// "SAMPLE and the unit's number": a number up to 255.
 fn byte(field: &[u8]) -> Result<u8, Unreadable> {
     number(field)?.try_into().map_err(|_| TOO_GREAT)
 }
 
-/// "LIST is nothing, or letter and operand parted by spaces", E11's names too.
+/// "LIST is nothing, or letter and operand parted by spaces".
 fn read_list(list: Option<&[u8]>, items: &mut Vec<Item>) -> Answered {
     items.clear();
     let mut rest = list;
     while let Some(fields) = rest {
-        let (name, after) = cut(fields);
+        let (letter, after) = cut(fields);
         let (operand, after) = cut(after.ok_or(Unreadable("an operand is missing"))?);
-        items.push(item(name, operand)?);
+        items.push(item(letter, operand)?);
         rest = after;
     }
     Ok(())
 }
 
 /// "an operand is a number up to 4294967295, of `H` and `S` two digits, of `g`
-/// a `-`", and of `r`.
-fn item(name: &[u8], operand: &[u8]) -> Result<Item, Unreadable> {
-    let operand = match name {
-        b"g" | b"r" if operand == b"-" => 0,
-        b"g" | b"r" => return Err(Unreadable("the operand is -")),
-        b"H" | b"S" if operand.len() != 2 => return Err(Unreadable("not two digits")),
+/// a `-`"
+fn item(letter: &[u8], operand: &[u8]) -> Result<Item, Unreadable> {
+    let &[letter] = letter else {
+        return Err(Unreadable("no such command"));
+    };
+    let operand = match letter {
+        b'g' if operand == b"-" => 0,
+        b'g' => return Err(Unreadable("the operand of g is -")),
+        b'H' | b'S' if operand.len() != 2 => return Err(Unreadable("not two digits")),
         _ => number(operand)?,
     };
-    Item::new(name, operand).ok_or(Unreadable("no such command"))
-}
-
-/// The image of the field: its bytes, or one with all slots empty.
-fn named_image(field: &[u8]) -> Result<Vec<u8>, Unreadable> {
-    let mut bytes = Vec::new();
-    match field {
-        b"empty" => bytes.extend(image::empty()),
-        b"small" => bytes.extend(small::empty()),
-        _ => read_hex(field, &mut bytes)?,
-    }
-    if bytes.len() > LONGEST_IMAGE {
-        return Err(Unreadable("too many bytes"));
-    }
-    Ok(bytes)
+    Item::new(letter, operand).ok_or(Unreadable("no such command"))
 }
 
 /// Bytes as "hex digits, either case, two a byte; no bytes is `-`".

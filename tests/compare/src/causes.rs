@@ -2,10 +2,9 @@
 //! of it occurred: each cause of paper 02, E6, alone and left of another.
 
 use crate::command::{self, Misread, DIGITS};
-use crate::fault::Fault;
 use crate::line;
 use crate::structure::{Cause, Structure};
-use crate::{Code, BODY};
+use crate::BODY;
 
 /// Every name that [`names`] gives.
 pub const NAMES: &[&str] = &[
@@ -30,12 +29,6 @@ pub const NAMES: &[&str] = &[
     "a missing R",
     "a missing R behind 165 bytes",
     "place 256",
-    "a with another letter",
-    "a at the end",
-    "an operand of aC",
-    "an operand of aE",
-    "an operand of au",
-    "a digit behind r",
 ];
 
 /// What an idle unit refuses this body for; the first is why.
@@ -54,22 +47,7 @@ pub fn names(body: &[u8]) -> Vec<&'static str> {
     };
     let mut names = Walk::through(body, commands, slot.is_some()).names(body);
     names.extend((fault.place == Some(BODY as u32)).then_some("place 256"));
-    names.extend(of_two_letters(body, fault));
     names
-}
-
-/// What is wrong with a command of E11, where the fault is one of it.
-fn of_two_letters(body: &[u8], fault: Fault) -> Option<&'static str> {
-    let (before, rest) = body.split_at_checked(fault.place?.checked_sub(1)? as usize)?;
-    Some(match (rest, fault.code) {
-        ([b'a', b'C', ..], Code::Operand) => "an operand of aC",
-        ([b'a', b'E', ..], Code::Operand) => "an operand of aE",
-        ([b'a', b'u', ..], Code::Operand) => "an operand of au",
-        ([b'a'], _) => "a at the end",
-        ([b'a', other, ..], Code::Letter) if !b"CEu".contains(other) => "a with another letter",
-        ([b'0'..=b'9', ..], _) if before.ends_with(b"r") => "a digit behind r",
-        _ => return None,
-    })
 }
 
 /// A body read to its end, whatever is bad in it.
@@ -103,7 +81,7 @@ impl Walk {
                 self.misreads.push(misread);
                 match misread {
                     Misread::Letter => &rest[1..],
-                    Misread::Operand => command::split_digits(&rest[command::name_length(rest)..]).1,
+                    Misread::Operand => command::split_digits(&rest[1..]).1,
                 }
             }
         }
@@ -174,15 +152,6 @@ mod tests {
             ("s0", &["a missing R"]),
             (&full, &["a missing R behind 165 bytes"]),
             (&format!("{}g", "H".repeat(255)), &["an unclosed g", "place 256"]),
-            ("P5aXA", &["a letter", "a letter left of an operand", "a with another letter"]),
-            ("P5a", &["a letter", "a at the end"]),
-            ("aR", &["a letter", "a with another letter"]),
-            ("aC0R", &["an operand", "an operand of aC"]),
-            ("P1aE999R", &["an operand", "an operand of aE"]),
-            ("aug", &["an operand", "an operand of au"]),
-            ("r5", &["a letter", "a digit behind r"]),
-            ("aG2g", &["a letter", "a with another letter"]),
-            ("aC5gr", &["an unclosed g"]),
             ("A5R", &[]),
         ] {
             assert_eq!(names(body.as_bytes()), expected, "{body}");

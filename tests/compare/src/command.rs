@@ -2,21 +2,14 @@
 
 use crate::Code;
 
-/// The greatest position, and the greatest operand of `A P D z Z B`.
+/// The greatest position, and the greatest operand of `A P D z Z`.
 pub const FARTHEST: u32 = 2_147_483_647;
 /// The greatest operand of `V`.
 pub const FASTEST: u32 = 16_777_216;
 /// The greatest operand of `L`.
 pub const STEEPEST: u32 = 65_000;
-/// The greatest operand of `n`: "`n` goes to 15".
-pub const ALL_MODES: u32 = 15;
 /// The greatest operand of `M` and `G`.
 pub const LONGEST: u32 = 30_000;
-/// The names of all commands, E11's of two letters.
-pub const NAMES: &[&str] = &[
-    "A", "P", "D", "z", "Z", "V", "L", "f", "F", "m", "h", "j", "o", "J", "b", "n", "B", "M", "g", "G", "H",
-    "S", "e", "aC", "aE", "au", "r",
-];
 /// E9: "an operand of more than ten digits is refused".
 pub const DIGITS: usize = 10;
 
@@ -79,18 +72,6 @@ pub enum Command {
     Outputs(u8),
     /// `b`
     Baud(u16),
-    /// `n`
-    Modes(u8),
-    /// `B`
-    JogDistance(u32),
-    /// `aC`
-    Allowed(u16),
-    /// `aE`
-    Ratio(u32),
-    /// `au`
-    Tries(u32),
-    /// `r`
-    Recover,
     /// `M`
     Delay(u16),
     /// `g`
@@ -106,36 +87,30 @@ pub enum Command {
 }
 
 impl Command {
-    /// The name of the command.
-    pub fn name(self) -> &'static str {
+    /// The letter of the command.
+    pub fn letter(self) -> u8 {
         match self {
-            Command::MoveTo(_) => "A",
-            Command::MoveUp(_) => "P",
-            Command::MoveDown(_) => "D",
-            Command::SetPosition(_) => "z",
-            Command::Home(_) => "Z",
-            Command::Speed(_) => "V",
-            Command::Slope(_) => "L",
-            Command::FlagLow(_) => "f",
-            Command::Turned(_) => "F",
-            Command::MoveCurrent(_) => "m",
-            Command::HoldCurrent(_) => "h",
-            Command::Resolution(_) => "j",
-            Command::Offset(_) => "o",
-            Command::Outputs(_) => "J",
-            Command::Baud(_) => "b",
-            Command::Modes(_) => "n",
-            Command::JogDistance(_) => "B",
-            Command::Allowed(_) => "aC",
-            Command::Ratio(_) => "aE",
-            Command::Tries(_) => "au",
-            Command::Recover => "r",
-            Command::Delay(_) => "M",
-            Command::Open => "g",
-            Command::Close(_) => "G",
-            Command::Await(_) => "H",
-            Command::Skip(_) => "S",
-            Command::Execute(_) => "e",
+            Command::MoveTo(_) => b'A',
+            Command::MoveUp(_) => b'P',
+            Command::MoveDown(_) => b'D',
+            Command::SetPosition(_) => b'z',
+            Command::Home(_) => b'Z',
+            Command::Speed(_) => b'V',
+            Command::Slope(_) => b'L',
+            Command::FlagLow(_) => b'f',
+            Command::Turned(_) => b'F',
+            Command::MoveCurrent(_) => b'm',
+            Command::HoldCurrent(_) => b'h',
+            Command::Resolution(_) => b'j',
+            Command::Offset(_) => b'o',
+            Command::Outputs(_) => b'J',
+            Command::Baud(_) => b'b',
+            Command::Delay(_) => b'M',
+            Command::Open => b'g',
+            Command::Close(_) => b'G',
+            Command::Await(_) => b'H',
+            Command::Skip(_) => b'S',
+            Command::Execute(_) => b'e',
         }
     }
 }
@@ -163,22 +138,14 @@ impl From<Misread> for Code {
 /// comes after it. `R`, `X` and `s` are no commands: where they are in place
 /// the line's reader has taken them.
 pub fn read(text: &[u8]) -> Result<(Command, &[u8]), Misread> {
-    let (name, after) = text.split_at(name_length(text));
-    match name {
-        b"g" => return Ok((Command::Open, after)),
-        b"r" => return Ok((Command::Recover, after)),
-        _ => {}
+    let Some((&letter, after)) = text.split_first() else {
+        return Err(Misread::Letter);
+    };
+    if letter == b'g' {
+        return Ok((Command::Open, after));
     }
     let (digits, rest) = split_digits(after);
-    Ok((with_operand(name, digits)?, rest))
-}
-
-/// The bytes of the name that a text begins with: two where it is one of E11's.
-pub fn name_length(text: &[u8]) -> usize {
-    match text {
-        [b'a', b'C' | b'E' | b'u', ..] => 2,
-        _ => text.len().min(1),
-    }
+    Ok((with_operand(letter, digits)?, rest))
 }
 
 /// "An operand is the longest run of digits".
@@ -187,37 +154,32 @@ pub fn split_digits(text: &[u8]) -> (&[u8], &[u8]) {
     text.split_at(end.unwrap_or(text.len()))
 }
 
-/// The command that a name and its digits make.
-fn with_operand(name: &[u8], digits: &[u8]) -> Result<Command, Misread> {
+/// The command that a letter and its digits make.
+fn with_operand(letter: u8, digits: &[u8]) -> Result<Command, Misread> {
     let upto = |greatest| within(digits, 0, greatest);
-    Ok(match name {
-        b"A" => Command::MoveTo(upto(FARTHEST)?),
-        b"P" => Command::MoveUp(upto(FARTHEST)?),
-        b"D" => Command::MoveDown(upto(FARTHEST)?),
-        b"z" => Command::SetPosition(upto(FARTHEST)?),
-        b"Z" => Command::Home(upto(FARTHEST)?),
-        b"V" => Command::Speed(within(digits, 1, FASTEST)?),
-        b"L" => Command::Slope(within(digits, 1, STEEPEST)? as u16),
-        b"f" => Command::FlagLow(upto(1)? == 1),
-        b"F" => Command::Turned(upto(1)? == 1),
-        b"m" => Command::MoveCurrent(upto(100)? as u8),
-        b"h" => Command::HoldCurrent(upto(50)? as u8),
-        b"j" => Command::Resolution(exponent(within(digits, 1, 256)?)?),
-        b"o" => Command::Offset(within(digits, 1400, 1650)? as u16),
-        b"J" => Command::Outputs(upto(3)? as u8),
-        b"b" => Command::Baud(rate(upto(38_400)?)?),
-        b"n" => Command::Modes(upto(ALL_MODES)? as u8),
-        b"B" => Command::JogDistance(upto(FARTHEST)?),
-        b"aC" => Command::Allowed(within(digits, 1, 65_000)? as u16),
-        b"aE" => Command::Ratio(within(digits, 1000, 1_000_000)?),
-        b"au" => Command::Tries(within(digits, 1, 1_000_000)?),
-        b"M" => Command::Delay(upto(LONGEST)? as u16),
-        b"G" if digits.is_empty() => Command::Close(0),
-        b"G" => Command::Close(upto(LONGEST)? as u16),
-        b"H" if digits.is_empty() => Command::Await(Level::BARE),
-        b"H" => Command::Await(Level::read(digits).ok_or(Misread::Operand)?),
-        b"S" => Command::Skip(Level::read(digits).ok_or(Misread::Operand)?),
-        b"e" => Command::Execute(slot(digits)?),
+    Ok(match letter {
+        b'A' => Command::MoveTo(upto(FARTHEST)?),
+        b'P' => Command::MoveUp(upto(FARTHEST)?),
+        b'D' => Command::MoveDown(upto(FARTHEST)?),
+        b'z' => Command::SetPosition(upto(FARTHEST)?),
+        b'Z' => Command::Home(upto(FARTHEST)?),
+        b'V' => Command::Speed(within(digits, 1, FASTEST)?),
+        b'L' => Command::Slope(within(digits, 1, STEEPEST)? as u16),
+        b'f' => Command::FlagLow(upto(1)? == 1),
+        b'F' => Command::Turned(upto(1)? == 1),
+        b'm' => Command::MoveCurrent(upto(100)? as u8),
+        b'h' => Command::HoldCurrent(upto(50)? as u8),
+        b'j' => Command::Resolution(exponent(within(digits, 1, 256)?)?),
+        b'o' => Command::Offset(within(digits, 1400, 1650)? as u16),
+        b'J' => Command::Outputs(upto(3)? as u8),
+        b'b' => Command::Baud(rate(upto(38_400)?)?),
+        b'M' => Command::Delay(upto(LONGEST)? as u16),
+        b'G' if digits.is_empty() => Command::Close(0),
+        b'G' => Command::Close(upto(LONGEST)? as u16),
+        b'H' if digits.is_empty() => Command::Await(Level::BARE),
+        b'H' => Command::Await(Level::read(digits).ok_or(Misread::Operand)?),
+        b'S' => Command::Skip(Level::read(digits).ok_or(Misread::Operand)?),
+        b'e' => Command::Execute(slot(digits)?),
         _ => return Err(Misread::Letter),
     })
 }
@@ -261,17 +223,16 @@ fn rate(number: u32) -> Result<u16, Misread> {
 #[cfg(test)]
 mod tests {
     use super::*;
-    use std::fmt::Display;
 
     /// The whole text as one command.
     fn one(text: &str) -> Result<Command, Misread> {
         let (command, rest) = read(text.as_bytes())?;
         assert!(rest.is_empty(), "{text}");
-        assert!(text.starts_with(command.name()));
+        assert_eq!(command.letter(), text.as_bytes()[0]);
         Ok(command)
     }
 
-    fn takes(letter: impl Display, numbers: &[u64]) {
+    fn takes(letter: char, numbers: &[u64]) {
         for number in numbers {
             for text in [format!("{letter}{number}"), format!("{letter}{number:010}")] {
                 assert!(one(&text).is_ok(), "{text}");
@@ -282,7 +243,7 @@ mod tests {
         }
     }
 
-    fn refuses(letter: impl Display, numbers: &[u64]) {
+    fn refuses(letter: char, numbers: &[u64]) {
         assert_eq!(one(&letter.to_string()), Err(Misread::Operand), "{letter}");
         for number in numbers {
             let text = format!("{letter}{number}");
@@ -295,7 +256,7 @@ mod tests {
 
     #[test]
     fn row_a_p_d_z_z() {
-        for letter in "APDzZB".chars() {
+        for letter in "APDzZ".chars() {
             takes(letter, &[0, 1, 2_147_483_646, 2_147_483_647]);
             refuses(letter, &[2_147_483_648, 4_294_967_295]);
         }
@@ -361,29 +322,6 @@ mod tests {
     }
 
     #[test]
-    fn row_modes() {
-        takes('n', &[0, 1, 2, 3, 4, 5, 6, 7, 8, 9, 10, 11, 12, 13, 14, 15]);
-        refuses('n', &[16, 24, 256, 271]);
-        assert_eq!(one("n05"), Ok(Command::Modes(5)));
-        assert_eq!(one("B0010"), Ok(Command::JogDistance(10)));
-    }
-
-    #[test]
-    fn rows_of_the_encoder() {
-        takes("aC", &[1, 50, 65_000]);
-        refuses("aC", &[0, 65_001, 65_536, 65_537]);
-        takes("aE", &[1000, 12_800, 1_000_000]);
-        refuses("aE", &[0, 1, 999, 1_000_001]);
-        takes("au", &[1, 10_000, 1_000_000]);
-        refuses("au", &[0, 1_000_001]);
-        assert_eq!(one("aC0065000"), Ok(Command::Allowed(65_000)));
-        assert_eq!(one("aE12800"), Ok(Command::Ratio(12_800)));
-        assert_eq!(one("au7"), Ok(Command::Tries(7)));
-        assert_eq!(one("r"), Ok(Command::Recover));
-        assert_eq!(read(b"r5"), Ok((Command::Recover, &b"5"[..])));
-    }
-
-    #[test]
     fn row_delay() {
         takes('M', &[0, 30_000]);
         refuses('M', &[30_001, 65_536]);
@@ -435,13 +373,8 @@ mod tests {
 
     #[test]
     fn all_other_letters() {
-        let names = |byte: &u8| NAMES.contains(&char::from(*byte).to_string().as_str());
-        for letter in (0..=255u8).filter(|byte| !names(byte)) {
+        for letter in (0..=255u8).filter(|byte| !b"APDzZVLfFmhjoJbMgGHSe".contains(byte)) {
             assert_eq!(read(&[letter, b'1']), Err(Misread::Letter));
-            assert_eq!(read(&[letter]), Err(Misread::Letter));
-        }
-        for letter in (0..=255u8).filter(|byte| !b"CEu".contains(byte)) {
-            assert_eq!(read(&[b'a', letter, b'9', b'9']), Err(Misread::Letter));
         }
         assert_eq!(read(b""), Err(Misread::Letter));
     }

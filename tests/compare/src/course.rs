@@ -21,8 +21,8 @@ pub enum End {
 }
 
 impl Unit {
-    /// Makes turns, "each reporting all its steps" and given the count of the turn
-    /// before: how many, and how that ended. With `lines` each turn is told there. Refused as a turn is.
+    /// Makes turns, "each reporting all its steps": how many, and how that
+    /// ended. With `lines` each turn is told there. Refused as a turn is.
     pub fn course(
         &mut self,
         image: &[u8],
@@ -30,13 +30,13 @@ impl Unit {
         elapsed: u32,
         mut lines: Option<&mut Vec<u8>>,
     ) -> Result<(u32, End), TurnRefusal> {
-        self.clone().turn(image, sample, elapsed, self.greatest_report(), self.encoder.given())?;
+        self.clone().turn(image, sample, elapsed, self.greatest_report())?;
         for made in 0..TURNS {
             if let Some(end) = self.end(sample) {
                 return Ok((made, end));
             }
             let taken = lines.is_some().then(|| taken(self));
-            let action = self.turn(image, sample, elapsed, self.greatest_report(), self.encoder.given())?;
+            let action = self.turn(image, sample, elapsed, self.greatest_report())?;
             if let (Some(lines), Some(taken)) = (&mut lines, taken) {
                 let _ = writeln!(lines, "turn {}: at {taken}, {}", made + 1, left(self, action));
             }
@@ -92,7 +92,6 @@ fn waiting(wait: Wait) -> String {
         Wait::Nothing => "none".to_string(),
         Wait::Move(on) if on.is_endless() => format!("endless {}", on.left()),
         Wait::Move(on) => format!("move {}", on.left()),
-        Wait::Try(on) => format!("try {}", on.left()),
         Wait::Home(Leg::Away { left, .. }) => format!("away {left}"),
         Wait::Home(Leg::Toward { left }) => format!("toward {left}"),
         Wait::Delay(left) => format!("delay {left}"),

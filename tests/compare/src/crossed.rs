@@ -176,8 +176,8 @@ fn of_refused(items: &[Item], way: Way, text: &[u8], first: Fault, faults: &[Fau
 
 fn of_letter(letter: u8) -> Option<&'static str> {
     Some(match letter {
-        b'F' | b'b' | b'a' | b'r' => "refused: a letter of ours alone",
-        b'v' | b'c' | b'l' | b'N' => "refused: a letter of the older drive alone",
+        b'F' | b'b' => "refused: a letter of ours alone",
+        b'v' | b'c' | b'l' | b'n' | b'N' => "refused: a letter of the older drive alone",
         b's' | b'R' | b'X' => "refused: s, R or X",
         b'T' | b'Q' | b'$' | b'?' => "refused: an immediate letter",
         b'0'..=b'9' => "refused: a digit",

@@ -1,25 +1,23 @@
 //! The host's side: "writing a line from a list of commands".
 
-use crate::command::NAMES;
 use crate::decimal::Decimal;
 use crate::fault::Fault;
 use crate::line::check_idle;
 use crate::{Code, BODY};
 
-/// One command of the host's list: a name and a number that may be out of its
-/// range. For `H` and `S` the number's two digits are level and input; for `g`
-/// and `r` it is not looked at.
+/// One command of the host's list: a letter and a number that may be out of
+/// its range. For `H` and `S` the number's two digits are level and input; for
+/// `g` it is not looked at.
 #[derive(Clone, Copy, Debug, PartialEq, Eq)]
 pub struct Item {
-    name: &'static str,
+    letter: u8,
     operand: u32,
 }
 
 impl Item {
-    /// The command, if the name is one of a command.
-    pub fn new(name: &[u8], operand: u32) -> Option<Self> {
-        let name = NAMES.iter().find(|known| known.as_bytes() == name)?;
-        Some(Item { name, operand })
+    /// The command, if the letter is one of a command.
+    pub fn new(letter: u8, operand: u32) -> Option<Self> {
+        b"APDzZVLfFmhjoJbMgGHSe".contains(&letter).then_some(Item { letter, operand })
     }
 }
 
@@ -72,10 +70,10 @@ impl Draft {
     /// "operands without leading zeros, `H` and `S` as two digits, `G` always
     /// with its number"
     fn item(&mut self, item: &Item) -> Option<()> {
-        self.push(item.name.as_bytes())?;
-        match item.name {
-            "g" | "r" => return Some(()),
-            "H" | "S" if item.operand < 10 => self.push(b"0")?,
+        self.push(&[item.letter])?;
+        match item.letter {
+            b'g' => return Some(()),
+            b'H' | b'S' if item.operand < 10 => self.push(b"0")?,
             _ => {}
         }
         self.push(Decimal::new(item.operand).bytes())
@@ -97,11 +95,11 @@ impl Draft {
 mod tests {
     use super::*;
 
-    fn item((name, operand): (&str, u32)) -> Item {
-        Item::new(name.as_bytes(), operand).unwrap()
+    fn item((letter, operand): (char, u32)) -> Item {
+        Item::new(letter as u8, operand).unwrap()
     }
 
-    fn written(slot: Option<u32>, list: &[(&str, u32)], run: bool) -> Result<String, HostRefusal> {
+    fn written(slot: Option<u32>, list: &[(char, u32)], run: bool) -> Result<String, HostRefusal> {
         let list: Vec<Item> = list.iter().copied().map(item).collect();
         let mut buffer = [0; 300];
         let length = write(slot, &list, run, &mut buffer)?;
@@ -114,7 +112,7 @@ mod tests {
 
     #[test]
     fn forms() {
-        let list = [("g", 7), ("P", 5), ("H", 2), ("S", 14), ("A", 0), ("G", 0)];
+        let list = [('g', 7), ('P', 5), ('H', 2), ('S', 14), ('A', 0), ('G', 0)];
         assert_eq!(written(None, &list, true).unwrap(), "gP5H02S14A0G0R");
         assert_eq!(written(Some(15), &list, true).unwrap(), "s15gP5H02S14A0G0R");
         assert_eq!(written(None, &[], false).unwrap(), "");
@@ -127,40 +125,30 @@ mod tests {
         assert_eq!(written(Some(16), &[], true), refused(0, Code::Operand));
         assert_eq!(written(Some(u32::MAX), &[], true), refused(0, Code::Operand));
         assert_eq!(written(Some(1), &[], false), refused(2, Code::Letter));
-        assert_eq!(written(None, &[("A", 2_147_483_648)], true), refused(0, Code::Operand));
-        assert_eq!(written(None, &[("A", 5), ("g", 0)], true), refused(2, Code::Letter));
-        assert_eq!(written(None, &[("g", 0), ("L", 0)], true), refused(1, Code::Operand));
-        assert_eq!(written(Some(1), &[("H", 2); 15], true), refused(44, Code::Letter));
-        assert_eq!(written(None, &[("H", 5)], true), refused(0, Code::Operand));
-        assert_eq!(written(None, &[("H", 99)], true), refused(0, Code::Operand));
-        assert_eq!(written(None, &[("H", 100)], true), refused(0, Code::Operand));
-        for name in ["R", "s", "a", "C", "aX", "Aa", "ar", ""] {
-            assert_eq!(Item::new(name.as_bytes(), 0), None, "{name}");
-        }
-    }
-
-    #[test]
-    fn names_of_two_letters() {
-        let list = [("aC", 50), ("aE", 12_800), ("au", 7), ("r", 3), ("n", 8)];
-        assert_eq!(written(None, &list, true).unwrap(), "aC50aE12800au7rn8R");
-        assert_eq!(written(Some(3), &[("r", 0)], true).unwrap(), "s3rR");
-        assert_eq!(written(None, &[("r", 0), ("aE", 999)], true), refused(1, Code::Operand));
-        assert_eq!(written(None, &[("aC", 5), ("au", 0)], true), refused(3, Code::Operand));
+        assert_eq!(written(None, &[('A', 2_147_483_648)], true), refused(0, Code::Operand));
+        assert_eq!(written(None, &[('A', 5), ('g', 0)], true), refused(2, Code::Letter));
+        assert_eq!(written(None, &[('g', 0), ('L', 0)], true), refused(1, Code::Operand));
+        assert_eq!(written(Some(1), &[('H', 2); 15], true), refused(44, Code::Letter));
+        assert_eq!(written(None, &[('H', 5)], true), refused(0, Code::Operand));
+        assert_eq!(written(None, &[('H', 99)], true), refused(0, Code::Operand));
+        assert_eq!(written(None, &[('H', 100)], true), refused(0, Code::Operand));
+        assert_eq!(Item::new(b'R', 0), None);
+        assert_eq!(Item::new(b's', 0), None);
     }
 
     #[test]
     fn length_before_operands() {
-        let mut list = vec![("H", 2); 85];
+        let mut list = vec![('H', 2); 85];
         assert_eq!(written(None, &list, true).unwrap().len(), 256);
         list[0].1 = 5;
         assert_eq!(written(None, &list, true), refused(0, Code::Operand));
-        list.push(("g", 0));
+        list.push(('g', 0));
         assert_eq!(written(None, &list, true), Err(HostRefusal::Line(Fault::nowhere(Code::Letter))));
     }
 
     #[test]
     fn buffer_after_the_check() {
-        let list = [item(("A", 5))];
+        let list = [item(('A', 5))];
         let mut buffer = *b"zz";
         assert_eq!(write(None, &list, true, &mut buffer), Err(HostRefusal::Buffer));
         assert_eq!(write(Some(16), &list, true, &mut buffer), refused(0, Code::Operand));

@@ -8,16 +8,10 @@ use crate::causes;
 use crate::command::{Command, DIGITS};
 use crate::crossed;
 use crate::digits;
-use crate::encoded;
-use crate::filled;
-use crate::form::Form;
 use crate::handed::Handed;
-use crate::image::SLOTS;
-use crate::jogged::{self, Stance};
+use crate::image::{self, Image, SLOTS};
 use crate::overheard;
-use crate::paired;
 use crate::speed;
-use crate::stores;
 use crate::turn::{Leg, Wait};
 use crate::unit::Unit;
 use crate::Code;
@@ -25,15 +19,7 @@ use crate::Code;
 /// Every kind that [`of_answer`] names, but those of `?`.
 const ANSWERS: &[&str] = &[
     "image: 4160 bytes",
-    "image: 1024 bytes",
     "image: another length",
-    "move: small moved",
-    "move: small refused target-length",
-    "move: small refused image-bad",
-    "move: small refused total",
-    "move: big moved",
-    "move: big refused target-length",
-    "move: big refused image-bad",
     "room: enough",
     "room: too short",
     "start: started",
@@ -54,11 +40,8 @@ const ANSWERS: &[&str] = &[
     "feed: idle 3 with data",
     "feed: idle 7",
     "feed: idle 7 with data",
-    "feed: idle 9",
-    "feed: idle 9 with data",
     "feed: idle 11",
     "feed: idle 11 with data",
-    "feed: idle 15",
     "feed: busy 0",
     "feed: busy 0 with data",
     "feed: busy 2",
@@ -78,11 +61,8 @@ const ANSWERS: &[&str] = &[
     "typed: idle 3 with data",
     "typed: idle 7",
     "typed: idle 7 with data",
-    "typed: idle 9",
-    "typed: idle 9 with data",
     "typed: idle 11",
     "typed: idle 11 with data",
-    "typed: idle 15",
     "typed: busy 0",
     "typed: busy 0 with data",
     "typed: busy 2",
@@ -98,11 +78,8 @@ const ANSWERS: &[&str] = &[
     "feed: oem idle 3 with data",
     "feed: oem idle 7",
     "feed: oem idle 7 with data",
-    "feed: oem idle 9",
-    "feed: oem idle 9 with data",
     "feed: oem idle 11",
     "feed: oem idle 11 with data",
-    "feed: oem idle 15",
     "feed: oem busy 0",
     "feed: oem busy 0 with data",
     "feed: oem busy 2",
@@ -122,11 +99,8 @@ const ANSWERS: &[&str] = &[
     "oem: idle 3 with data",
     "oem: idle 7",
     "oem: idle 7 with data",
-    "oem: idle 9",
-    "oem: idle 9 with data",
     "oem: idle 11",
     "oem: idle 11 with data",
-    "oem: idle 15",
     "oem: busy 0",
     "oem: busy 0 with data",
     "oem: busy 2",
@@ -146,7 +120,6 @@ const ANSWERS: &[&str] = &[
     "run: idle 0",
     "run: idle 1",
     "run: idle 7",
-    "run: idle 9",
     "run: idle 11",
     "run: waits",
     "run: busy",
@@ -156,7 +129,6 @@ const ANSWERS: &[&str] = &[
     "timeline: idle 0",
     "timeline: idle 1",
     "timeline: idle 7",
-    "timeline: idle 9",
     "timeline: idle 11",
     "timeline: waits",
     "buffer: untouched",
@@ -166,25 +138,7 @@ const ANSWERS: &[&str] = &[
     "unit: idle",
     "unit: running",
     "store: 4160 bytes",
-    "store: 1024 bytes",
     "store: another length",
-    "fill: 0 0",
-    "fill: some",
-    "fill: refused image-length",
-    "fill: refused entry",
-    "other: 4160 bytes",
-    "other: 1024 bytes",
-    "other: another length",
-    "differ: -",
-    "differ: one",
-    "differ: more",
-    "differ: refused first-bad",
-    "differ: refused second-bad",
-    "either: -",
-    "either: a text",
-    "either: refused first-bad",
-    "either: refused second-bad",
-    "either: refused slot",
     "line: 0",
     "line: 2",
     "line: 2 with a place",
@@ -234,9 +188,8 @@ const ANSWERS: &[&str] = &[
 
 /// The words of the operations; each can be unreadable.
 const WORDS: &[&str] = &[
-    "image", "move", "room", "buffer", "start", "feed", "turn", "run", "timeline", "unit", "store", "fill",
-    "line", "text", "ramp", "write", "read", "oem", "count", "listen", "older", "newer", "help", "other",
-    "differ", "either", "unknown",
+    "image", "room", "buffer", "start", "feed", "turn", "run", "timeline", "unit", "store", "line", "text",
+    "ramp", "write", "read", "oem", "count", "listen", "older", "newer", "help", "other",
 ];
 
 /// Every kind that [`of_event`] names.
@@ -253,7 +206,6 @@ const EVENTS: &[&str] = &[
     "frame: R ends a wait at H",
     "frame: T ends a run",
     "frame: T ends a move",
-    "frame: T ends a try",
     "frame: T ends a homing",
     "frame: the endless speed changes",
     "turn: idle",
@@ -262,26 +214,17 @@ const EVENTS: &[&str] = &[
     "A: a move",
     "A: at once",
     "A: stops with 7",
-    "A: a try",
-    "A: stops with 9",
-    "A: stops with 11",
     "P: a move",
-    "P: at once",
     "P: an endless move",
     "P: stops with 7",
-    "P: stops with 9",
     "P: stops with 11",
     "D: a move",
-    "D: at once",
     "D: an endless move",
     "D: stops with 7",
-    "D: stops with 9",
     "D: stops with 11",
     "Z: leg away",
-    "Z: stops with 11",
     "Z: leg toward",
     "z: at once",
-    "z: stops with 11",
     "V: at once",
     "L: at once",
     "f: at once",
@@ -292,12 +235,6 @@ const EVENTS: &[&str] = &[
     "o: at once",
     "J: at once",
     "b: at once",
-    "n: at once",
-    "B: at once",
-    "aC: at once",
-    "aE: at once",
-    "au: at once",
-    "r: at once",
     "M: at once",
     "M: a delay",
     "g: at once",
@@ -313,10 +250,6 @@ const EVENTS: &[&str] = &[
     "e: endless digits",
     "move: goes on",
     "move: ends",
-    "move: a try",
-    "try: goes on",
-    "try: ends",
-    "try: stops with 9",
     "endless: goes on",
     "endless: ends",
     "endless: stops with 11",
@@ -331,7 +264,6 @@ const EVENTS: &[&str] = &[
     "speed line: refused with 3 in an endless move",
     "speed line: endless digits in an endless move",
     "speed line: refused with 15 in a move",
-    "speed line: refused with 15 in a try",
     "speed line: refused with 15 in a homing",
     "speed line: refused with 15 in a delay",
     "speed line: refused with 15 at an input",
@@ -357,14 +289,7 @@ pub fn all() -> Vec<String> {
     let digits = digits::NAMES.iter().map(|name| format!("digits: {name}"));
     let heard = overheard::NAMES.iter().map(|name| format!("heard: {name}"));
     let crossed = crossed::all().into_iter().map(|name| format!("crossed: {name}"));
-    let stores = stores::NAMES.iter().map(|name| format!("small: {name}"));
-    let jogged = jogged::all().into_iter().map(|name| format!("jog: {name}"));
-    let paired = paired::NAMES.iter().map(|name| format!("pair: {name}"));
-    let filled = filled::NAMES.iter().map(|name| format!("filled: {name}"));
-    let encoded = encoded::all().into_iter().map(|name| format!("encoder: {name}"));
-    let images = stores.chain(filled).chain(paired);
-    let more = digits.chain(heard).chain(crossed).chain(images).chain(jogged).chain(encoded);
-    answers.chain(unreadable).chain(events).chain(faults).chain(more).collect()
+    answers.chain(unreadable).chain(events).chain(faults).chain(digits).chain(heard).chain(crossed).collect()
 }
 
 /// The kind of an operation and its answer, as [`all`] names it.
@@ -375,7 +300,7 @@ pub fn of_answer(operation: &[u8], answer: &[u8]) -> String {
     let word = match operation.split(' ').next() {
         _ if operation.starts_with('/') => "typed",
         Some(word) if WORDS.contains(&word) => word,
-        _ => "unknown",
+        _ => "other",
     };
     format!("{word}: {}", short(word, &operation, &answer))
 }
@@ -399,8 +324,9 @@ fn short(word: &str, operation: &str, answer: &str) -> String {
         ("feed", ["fed", _, packet]) => packet_kind(packet),
         ("typed" | "oem", [state @ ("idle" | "busy"), code]) => format!("{state} {code}"),
         ("typed" | "oem", [state @ ("idle" | "busy"), code, ..]) => format!("{state} {code} with data"),
-        ("image" | "store" | "other" | "move" | "differ" | "either" | "fill", fields) => {
-            of_images(word, operation, fields).unwrap_or(answer.to_string())
+        ("image" | "store", [_, content]) => {
+            let good = *content == "4160" || content.len() == 2 * 4160;
+            if good { "4160 bytes" } else { "another length" }.to_string()
         }
         ("room", ["room", room]) => {
             let enough = room.parse().is_ok_and(|room: u32| room >= 262);
@@ -426,29 +352,6 @@ fn short(word: &str, operation: &str, answer: &str) -> String {
         ("read", ["packet", ..]) => "packet with data".to_string(),
         _ => answer.to_string(),
     }
-}
-
-/// The same of an operation with images.
-fn of_images(word: &str, operation: &str, fields: &[&str]) -> Option<String> {
-    Some(match (word, fields) {
-        ("move", ["moved" | "refused", ..]) => {
-            let form = operation.split(' ').nth(1)?;
-            let end = if fields[0] == "moved" { fields[0].to_string() } else { fields.join(" ") };
-            format!("{form} {end}")
-        }
-        ("differ", ["differ", "-"]) | ("either", ["either", "-"]) => "-".to_string(),
-        ("differ", ["differ", _]) => "one".to_string(),
-        ("differ", ["differ", ..]) => "more".to_string(),
-        ("either", ["either", _]) => "a text".to_string(),
-        ("fill", ["fill", "0", "0"]) => "0 0".to_string(),
-        ("fill", ["fill", ..]) => "some".to_string(),
-        ("image" | "store" | "other", [_, content]) => {
-            let length = |length: usize| *content == length.to_string() || content.len() == 2 * length;
-            let known = [4160, 1024].into_iter().find(|&known| length(known));
-            known.map_or("another length".to_string(), |known| format!("{known} bytes"))
-        }
-        _ => return None,
-    })
 }
 
 /// How many bytes a readable feed has.
@@ -496,50 +399,6 @@ pub fn of_crossed(operation: &[u8]) -> Vec<String> {
     crossed::WAYS.into_iter().filter_map(names).flatten().map(|name| format!("crossed: {name}")).collect()
 }
 
-/// The kinds of what came of a small image or a move, as [`all`] names them,
-/// from the kind of the answer and the image before: paper 02, E7.
-pub fn of_stores(operation: &[u8], kind: &str, image: &[u8], before: Option<Glance>) -> Vec<String> {
-    let jump = before.and_then(|before| before.jump);
-    let names = stores::names(operation, kind, image, jump);
-    names.into_iter().map(|name| format!("small: {name}")).collect()
-}
-
-/// The kinds of what `fill` met, as [`all`] names them: paper 02, E8.
-pub fn of_filled(operation: &[u8], image: &[u8]) -> Vec<String> {
-    filled::names(operation, image).into_iter().map(|name| format!("filled: {name}")).collect()
-}
-
-/// The kinds of what two images met, as [`all`] names them: paper 02, E13.
-pub fn of_pair(operation: &[u8], bench: &Bench) -> Vec<String> {
-    let names = paired::names(operation, bench.image(), bench.other());
-    names.into_iter().map(|name| format!("pair: {name}")).collect()
-}
-
-/// The kinds of what jogs and limits did, as [`all`] names them, from the kind of
-/// the answer: paper 02, E5.
-pub fn of_jog(operation: &[u8], kind: &str, before: Option<Glance>, after: Option<Glance>) -> Vec<String> {
-    let (Some(before), Some(after)) = (before, after) else {
-        return Vec::new();
-    };
-    let names = jogged::names(operation, kind, &before.stance, &after.stance);
-    names.into_iter().map(|name| format!("jog: {name}")).collect()
-}
-
-/// The kinds of what the encoder did, as [`all`] names them, from the kind of the
-/// answer: paper 02, E11.
-pub fn of_encoder(
-    operation: &[u8],
-    kind: &str,
-    before: Option<Glance>,
-    after: Option<Glance>,
-) -> Vec<String> {
-    let (Some(before), Some(after)) = (before, after) else {
-        return Vec::new();
-    };
-    let names = encoded::names(operation, kind, &before.stance, &after.stance);
-    names.into_iter().map(|name| format!("encoder: {name}")).collect()
-}
-
 /// The kind of a refused body, from `line` or a frame.
 fn fault(word: &str, name: &str) -> String {
     format!("fault: {word}: {name}")
@@ -561,12 +420,11 @@ pub fn of_fault(operation: &[u8], kind: &str) -> Vec<String> {
 #[derive(Clone, Copy, Debug, PartialEq, Eq)]
 enum Phase {
     Idle,
-    /// The next turn takes a command of this name.
-    Command(&'static str),
+    /// The next turn takes a command of this letter.
+    Command(u8),
     /// The next turn ends the run.
     End,
     Move,
-    Try,
     Endless,
     Away,
     Toward,
@@ -579,12 +437,11 @@ impl Phase {
         match unit.wait {
             _ if !unit.running => Phase::Idle,
             Wait::Nothing => match unit.text.command(unit.next) {
-                Some(command) => Phase::Command(command.name()),
+                Some(command) => Phase::Command(command.letter()),
                 None => Phase::End,
             },
             Wait::Move(on) if on.is_endless() => Phase::Endless,
             Wait::Move(_) => Phase::Move,
-            Wait::Try(_) => Phase::Try,
             Wait::Home(Leg::Away { .. }) => Phase::Away,
             Wait::Home(Leg::Toward { .. }) => Phase::Toward,
             Wait::Delay(_) => Phase::Delay,
@@ -596,7 +453,6 @@ impl Phase {
     fn waiting(self) -> &'static str {
         match self {
             Phase::Move => "move",
-            Phase::Try => "try",
             Phase::Endless => "endless",
             Phase::Away => "leg away",
             Phase::Toward => "leg toward",
@@ -610,7 +466,6 @@ impl Phase {
     fn begun(self) -> Option<&'static str> {
         Some(match self {
             Phase::Move => "a move",
-            Phase::Try => "a try",
             Phase::Endless => "an endless move",
             Phase::Away => "leg away",
             Phase::Toward => "leg toward",
@@ -635,7 +490,6 @@ pub struct Glance {
     /// The slot that an `e` would begin in the next turn.
     jump: Option<u8>,
     image: u64,
-    stance: Stance,
 }
 
 impl Glance {
@@ -656,7 +510,6 @@ impl Glance {
                 _ => None,
             },
             image: weigh(bench.image()),
-            stance: Stance::of(unit),
         })
     }
 }
@@ -729,7 +582,6 @@ fn of_speed_line(phase: Phase, told: &str) -> Option<&'static str> {
         (Phase::Endless, "0") => "speed line: obeyed in an endless move",
         (Phase::Endless, "3 with data") => "speed line: refused with 3 in an endless move",
         (Phase::Move, "15") => "speed line: refused with 15 in a move",
-        (Phase::Try, "15") => "speed line: refused with 15 in a try",
         (Phase::Away | Phase::Toward, "15") => "speed line: refused with 15 in a homing",
         (Phase::Delay, "15") => "speed line: refused with 15 in a delay",
         (Phase::Input, "15") => "speed line: refused with 15 at an input",
@@ -757,9 +609,9 @@ fn of_stored_digits(
         let text = read_hex_field(operation.strip_prefix(b"text ")?)?;
         return digits::are_endless(&text).then_some("text: endless digits");
     }
-    let image = Form::of(bench.image())?;
-    let endless = |slot| image.held(slot).is_some_and(digits::are_endless);
-    let occur = |slot| image.held(slot).is_some_and(digits::occur_in);
+    let image = <&Image>::try_from(bench.image()).ok()?;
+    let endless = |slot| image::held(image, slot).is_some_and(digits::are_endless);
+    let occur = |slot| image::held(image, slot).is_some_and(digits::occur_in);
     match kind {
         "start: started" if endless(0) => Some("start: endless digits in program 0"),
         "start: started" if (1..SLOTS).any(endless) => Some("start: endless digits in another program"),
@@ -779,7 +631,6 @@ fn of_frame(before: Glance, after: Glance) -> Option<&'static str> {
         (Phase::Idle, _) => "frame: a run starts",
         (Phase::Away | Phase::Toward, Phase::Idle) => "frame: T ends a homing",
         (Phase::Move | Phase::Endless, Phase::Idle) => "frame: T ends a move",
-        (Phase::Try, Phase::Idle) => "frame: T ends a try",
         (_, Phase::Idle) => "frame: T ends a run",
         (Phase::Input, Phase::Command(_) | Phase::End) => "frame: R ends a wait at H",
         (Phase::Endless, Phase::Endless) if before.endless_speed != after.endless_speed => {
@@ -794,20 +645,20 @@ fn of_turn(before: Glance, after: Glance) -> String {
         Phase::Idle => "turn: idle".to_string(),
         Phase::End if before.text_length == 0 => "turn: end of an empty text".to_string(),
         Phase::End => "turn: end of text".to_string(),
-        Phase::Command(name) => format!("{name}: {}", of_command(name, before, after)),
+        Phase::Command(letter) => format!("{}: {}", letter as char, of_command(letter, before, after)),
         wait => format!("{}: {}", wait.waiting(), of_wait(before, after)),
     }
 }
 
-fn of_command(name: &str, before: Glance, after: Glance) -> String {
-    match name {
+fn of_command(letter: u8, before: Glance, after: Glance) -> String {
+    match letter {
         _ if after.phase == Phase::Idle => format!("stops with {}", after.code as u8),
-        "G" if after.next <= before.next => "goes back".to_string(),
-        "G" => "goes on".to_string(),
-        "S" if after.next == before.next + 2 => "skips".to_string(),
-        "S" => "does not skip".to_string(),
-        "e" if after.text_length == 0 => "an empty text".to_string(),
-        "e" => "a text".to_string(),
+        b'G' if after.next <= before.next => "goes back".to_string(),
+        b'G' => "goes on".to_string(),
+        b'S' if after.next == before.next + 2 => "skips".to_string(),
+        b'S' => "does not skip".to_string(),
+        b'e' if after.text_length == 0 => "an empty text".to_string(),
+        b'e' => "a text".to_string(),
         _ => after.phase.begun().unwrap_or("at once").to_string(),
     }
 }
@@ -886,13 +737,9 @@ mod tests {
             ("count 41", "refused 3 1", "count: refused 3 with a place"),
             ("write 3 -", "refused 2 3", "write: refused 2 with a place"),
             ("/2?0", "-", "typed: -"),
-            ("turn 1 1 1 -7", "act up 5", "turn: act up"),
-            ("turn 256 1 1 0", "?", "turn: ?"),
-            ("", "?", "unknown: ?"),
-            ("other x", "?", "other: ?"),
-            ("other small", "other 1024", "other: 1024 bytes"),
-            ("differ", "differ 3:0 4:12", "differ: more"),
-            ("either 3", "either 48", "either: a text"),
+            ("turn 1 1 1", "act up 5", "turn: act up"),
+            ("turn 256 1 1", "?", "turn: ?"),
+            ("", "?", "other: ?"),
             ("room 261", "room 261", "room: too short"),
             ("image -", "image 0", "image: another length"),
             ("ramp 1 1 endless", "ramp 1 0 0 0 0", "ramp: endless"),

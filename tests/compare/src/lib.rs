@@ -1,7 +1,7 @@
 //! One drive's side of the DT protocol, and the host's side, written from
 //! paper 01 ("The work covered and the rules it follows"), the requests of
-//! paper 02 (E1 to E14) and the decided readings of their open points, and
-//! from nothing else.
+//! paper 02 that it knows (E1, E2, E3, E4, E6, E9, E10, E12, E14) and the
+//! decided readings of their open points, and from nothing else.
 //!
 //! The words in quotes in the comments are the papers'. The model is the
 //! judge in a comparison: [`bench`] speaks the tester's language over it,
@@ -9,28 +9,18 @@
 //! in that language, [`kinds`] names what came back, [`causes`] what a body is
 //! refused for, [`digits`] how long its operands are, from what [`handed`]
 //! finds in an operation, [`overheard`] what stands in a listener's bytes,
-//! [`crossed`] what stands in a text for the other drive, [`stores`] what
-//! small images and moves met, [`filled`] what was asked for its fill,
-//! [`paired`] what two images met, [`jogged`] what jogs and limits did,
-//! [`encoded`] what the encoder did, and [`shrink`] makes a disagreement short.
-//! [`pace`] repeats feed and turn, to time them.
+//! [`crossed`] what stands in a text for the other drive, and [`shrink`] makes
+//! a disagreement short. [`pace`] repeats feed and turn, to time them.
 
 pub mod address;
 pub mod command;
-pub mod contents;
 pub mod count;
 pub mod decimal;
-pub mod differ;
-pub mod encoder;
 pub mod fault;
-pub mod fill;
-pub mod form;
 pub mod host;
 pub mod image;
-pub mod jog;
 pub mod line;
 pub mod listen;
-pub mod moved;
 pub mod old;
 pub mod older;
 pub mod packet;
@@ -38,7 +28,6 @@ pub mod pieces;
 pub mod ramp;
 pub mod receiver;
 pub mod shared;
-pub mod small;
 pub mod speed;
 pub mod structure;
 pub mod text;
@@ -50,17 +39,12 @@ pub mod causes;
 pub mod course;
 pub mod crossed;
 pub mod digits;
-pub mod encoded;
-pub mod filled;
 pub mod handed;
-pub mod jogged;
 pub mod kinds;
 pub mod overheard;
 pub mod pace;
-pub mod paired;
 pub mod random;
 pub mod shrink;
-pub mod stores;
 
 /// "The body has 0 to 256 bytes."
 pub const BODY: usize = 256;
@@ -79,11 +63,8 @@ pub enum Code {
     Operand = 3,
     /// "`A P D` with position unknown".
     Unknown = 7,
-    /// E11: "the last try is off", and each `A P D` after that until `r`.
-    Overload = 9,
     /// A move that leaves the range.
     Range = 11,
-    /// "running, and not immediate nor a resuming `R`", or E7's store without
-    /// room.
+    /// "running, and not immediate nor a resuming `R`".
     Busy = 15,
 }

@@ -182,7 +182,7 @@ impl Paced {
     fn turns(&mut self, steps: u32, times: u32) {
         let mut number = 0;
         for i in 0..times {
-            let (told, code) = match self.unit.turn(&self.image, (i % 16) as u8, 1, steps.min(number), 0) {
+            let (told, code) = match self.unit.turn(&self.image, (i % 16) as u8, 1, steps.min(number)) {
                 Ok(Action::Up(n)) => (n, n),
                 Ok(Action::Down(n)) => (n, n.wrapping_add(1)),
                 Ok(Action::None) | Err(_) => (0, 7),

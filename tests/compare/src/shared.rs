@@ -12,8 +12,8 @@ pub enum Way {
     Outward,
 }
 
-/// The letters that both sides have: ours without `F`, `b` and E11's.
-pub const LETTERS: &[u8] = b"APDzZVLfmhjoJnBMgGHSe";
+/// The letters that both sides have: ours without `F` and `b`.
+pub const LETTERS: &[u8] = b"APDzZVLfmhjoJMgGHSe";
 
 /// The older drive's `L`, "units of 7500"; twice that.
 const OLDER_UNIT: u32 = 15_000;
@@ -48,15 +48,11 @@ fn operand(command: Command, way: Way) -> Option<String> {
         Command::Offset(offset) => Some(offset.into()).filter(|number| *number <= 250)?,
         Command::MoveTo(number) | Command::MoveUp(number) | Command::MoveDown(number) => number,
         Command::SetPosition(number) | Command::Home(number) => number,
-        // 004 has 0 to 2047, so 0 to 15 is in both, and tells no range of `B`.
-        Command::Modes(number) => number.into(),
-        Command::JogDistance(number) => number,
         Command::FlagLow(low) => low.into(),
         Command::MoveCurrent(number) | Command::HoldCurrent(number) => number.into(),
         Command::Outputs(number) | Command::Execute(number) => number.into(),
         Command::Delay(number) | Command::Close(number) => number.into(),
         Command::Turned(_) | Command::Baud(_) => return None,
-        Command::Allowed(_) | Command::Ratio(_) | Command::Tries(_) | Command::Recover => return None,
     };
     Some(number.to_string())
 }
@@ -100,7 +96,7 @@ mod tests {
 
     #[test]
     fn ranges_of_both() {
-        for letter in "APDzZB".chars() {
+        for letter in "APDzZ".chars() {
             keeps(letter, 0, 2_147_483_647);
         }
         keeps('V', 50, 10_000);
@@ -109,11 +105,10 @@ mod tests {
         keeps('h', 0, 50);
         keeps('j', 2, 256);
         keeps('J', 0, 3);
-        keeps('n', 0, 15);
         keeps('M', 0, 30_000);
         keeps('G', 0, 30_000);
         keeps('e', 0, 15);
-        for letter in "APDzZVLfmhjoJnBMSe".chars() {
+        for letter in "APDzZVLfmhjoJMSe".chars() {
             assert_eq!(one(&letter.to_string(), Inward), Err(Misread::Operand), "{letter}");
             assert_eq!(one(&letter.to_string(), Outward), Err(Misread::Operand), "{letter}");
         }

@@ -1,8 +1,7 @@
 //! Making a script that shows a disagreement short.
 
 use crate::bench::{read_hex_field, write_hex};
-use crate::form::FormMut;
-use crate::image::SLOTS;
+use crate::image::{self, Image};
 use crate::packet::checksum;
 
 /// A script: its operations.
@@ -128,8 +127,7 @@ fn shorter<T: Clone>(items: &[T]) -> Vec<Vec<T>> {
 fn shorter_bytes(bytes: &[u8]) -> Vec<Vec<u8>> {
     const FEW: usize = 30;
     let mut found = shorter(bytes);
-    let named = |place: usize| b"CEu".contains(&bytes[place]) && bytes[place - 1] == b'a';
-    let begins = |place: &usize| *place == 0 || !bytes[*place].is_ascii_digit() && !named(*place);
+    let begins = |place: &usize| *place == 0 || !bytes[*place].is_ascii_digit();
     let places: Vec<usize> = (0..bytes.len()).filter(begins).chain([bytes.len()]).collect();
     let words: Vec<&[u8]> = places.windows(2).map(|ends| &bytes[ends[0]..ends[1]]).collect();
     if words.len() <= FEW {
@@ -153,7 +151,7 @@ fn simpler(operation: &[u8]) -> Vec<Vec<u8>> {
     let mut fields: Vec<&[u8]> = operation.split(|&byte| byte == b' ').collect();
     let word = fields.remove(0);
     match (word, &fields[..]) {
-        (b"image" | b"other", [hex]) => simpler_image(word, hex),
+        (b"image", [hex]) => simpler_image(hex),
         (b"feed" | b"line" | b"text" | b"read" | b"count", [hex]) => simpler_bytes(word, hex),
         (b"listen" | b"older" | b"newer", [hex]) => simpler_bytes(word, hex),
         (b"write", [slot, run, list @ ..]) => simpler_list(slot, run, list),
@@ -206,16 +204,18 @@ fn with_hex(word: &[u8], bytes: &[u8]) -> Vec<u8> {
 }
 
 /// The empty image, no image, and the image with one slot less.
-fn simpler_image(word: &[u8], hex: &[u8]) -> Vec<Vec<u8>> {
+fn simpler_image(hex: &[u8]) -> Vec<Vec<u8>> {
     let Some(bytes) = read_hex_field(hex).filter(|bytes| !bytes.is_empty()) else {
         return Vec::new();
     };
-    let mut found = [&b"empty"[..], b"small", b"-"].map(|form| [word, form].join(&b' ')).to_vec();
-    for slot in 0..SLOTS {
-        let mut new = bytes.clone();
-        let stored = FormMut::of(&mut new).is_some_and(|mut image| image.store(slot, b"").is_ok());
-        if stored && new != bytes {
-            found.push(with_hex(word, &new));
+    let mut found = vec![b"image empty".to_vec(), b"image -".to_vec()];
+    if let Ok(old) = Image::try_from(bytes) {
+        for slot in 0..image::SLOTS {
+            let mut new = old;
+            image::store(&mut new, slot, b"");
+            if new != old {
+                found.push(with_hex(b"image", &new));
+            }
         }
     }
     found
@@ -234,12 +234,12 @@ fn simpler_list(slot: &[u8], run: &[u8], list: &[&[u8]]) -> Vec<Vec<u8>> {
 fn simpler_numbers(word: &[u8], fields: &[&[u8]]) -> Vec<Vec<u8>> {
     let mut found = Vec::new();
     for (place, field) in fields.iter().enumerate() {
-        let number = std::str::from_utf8(field).ok().and_then(|field| field.parse::<i64>().ok());
+        let number = std::str::from_utf8(field).ok().and_then(|field| field.parse::<u64>().ok());
         let Some(number) = number else {
             continue;
         };
-        let smaller = [0, 1, number / 2, number - number.signum()];
-        for number in smaller.into_iter().filter(|smaller| smaller.abs() < number.abs()) {
+        let smaller = [0, 1, number / 2, number.saturating_sub(1)];
+        for number in smaller.into_iter().filter(|&smaller| smaller < number) {
             let number = number.to_string();
             let mut fields = fields.to_vec();
             fields[place] = number.as_bytes();
@@ -259,15 +259,8 @@ mod tests {
 
     #[test]
     fn down_to_what_matters() {
-        let long = script(&[
-            "room 5",
-            "feed 2f31",
-            "turn 15 3 100 -5",
-            "unit",
-            "feed aabbccdd",
-            "turn 7 1 9 8",
-            "store",
-        ]);
+        let long =
+            script(&["room 5", "feed 2f31", "turn 15 3 100", "unit", "feed aabbccdd", "turn 7 1 9", "store"]);
         let matters = |script: &[Vec<u8>]| {
             let seen = script
                 .iter()
@@ -275,7 +268,7 @@ mod tests {
             let turn = script[seen..].iter().position(|line| line.starts_with(b"turn"))?;
             Some(seen + turn)
         };
-        assert_eq!(shrink(long, 1000, matters), script(&["feed cc", "turn 0 0 0 0"]));
+        assert_eq!(shrink(long, 1000, matters), script(&["feed cc", "turn 0 0 0"]));
     }
 
     #[test]
@@ -315,7 +308,7 @@ mod tests {
 
     #[test]
     fn feeds_are_joined() {
-        let cut = script(&["feed aa", "feed -", "feed bbcc", "turn 1 1 1 1"]);
+        let cut = script(&["feed aa", "feed -", "feed bbcc", "turn 1 1 1"]);
         let whole = |script: &[Vec<u8>]| {
             let bytes: Vec<u8> = script
                 .iter()

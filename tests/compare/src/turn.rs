@@ -1,9 +1,8 @@
 //! A turn: it "either serves that wait or takes exactly one command, and
 //! answers the next motor action".
 
-use crate::command::{Command, Level};
-use crate::encoder::{Ratio, Try};
-use crate::form::Form;
+use crate::command::{Command, Level, FARTHEST};
+use crate::image::{self, Image};
 use crate::structure::OPEN_LOOPS;
 use crate::unit::Unit;
 use crate::Code;
@@ -11,9 +10,9 @@ use crate::Code;
 /// Inputs 1 to 4, all high: the greatest sample.
 const ALL_HIGH: u8 = 15;
 /// Input 2, whose fall ends an endless move.
-pub(crate) const INPUT_2: u8 = 0b0010;
+const INPUT_2: u8 = 0b0010;
 /// Input 3, the flag.
-pub(crate) const INPUT_3: u8 = 0b0100;
+const INPUT_3: u8 = 0b0100;
 /// "If cut, move away at most 10,000 until clear".
 const AWAY: u32 = 10_000;
 /// E2: the leg toward zero is "n + 400".
@@ -57,22 +56,12 @@ pub enum TurnRefusal {
 pub struct Motion {
     pub(crate) number: u32,
     direction: Direction,
-    /// "Homing steps do not count in the position", nor do tries.
-    uncounted: bool,
+    /// "Homing steps do not count in the position."
+    homing: bool,
 }
 
 impl Motion {
-    pub(crate) const STILL: Motion = Motion { number: 0, direction: Direction::Up, uncounted: false };
-
-    /// Steps that count in the position.
-    pub(crate) fn counted(direction: Direction, number: u32) -> Motion {
-        Motion { number, direction, uncounted: false }
-    }
-
-    /// Steps that do not.
-    pub(crate) fn uncounted(direction: Direction, number: u32) -> Motion {
-        Motion { number, direction, uncounted: true }
-    }
+    pub(crate) const STILL: Motion = Motion { number: 0, direction: Direction::Up, homing: false };
 
     /// The action as it is answered: "`F1` turns the direction of every
     /// action".
@@ -99,18 +88,13 @@ impl Move {
         self.endless
     }
 
-    /// Up or down as the position counts.
-    pub fn direction(self) -> Direction {
-        self.direction
-    }
-
     /// The microsteps that are left.
     pub fn left(self) -> u32 {
         self.left
     }
 
     fn motion(self) -> Motion {
-        Motion::counted(self.direction, self.left)
+        Motion { number: self.left, direction: self.direction, homing: false }
     }
 }
 
@@ -126,19 +110,17 @@ pub enum Leg {
 impl Leg {
     fn motion(self) -> Motion {
         match self {
-            Leg::Away { left, .. } => Motion::uncounted(Direction::Up, left),
-            Leg::Toward { left } => Motion::uncounted(Direction::Down, left),
+            Leg::Away { left, .. } => Motion { number: left, direction: Direction::Up, homing: true },
+            Leg::Toward { left } => Motion { number: left, direction: Direction::Down, homing: true },
         }
     }
 }
 
-/// "what it waits for: nothing, a move, a homing leg, a delay or an input", and
-/// with E11 a try.
+/// "what it waits for: nothing, a move, a homing leg, a delay or an input".
 #[derive(Clone, Copy, Debug, PartialEq, Eq)]
 pub enum Wait {
     Nothing,
     Move(Move),
-    Try(Try),
     Home(Leg),
     /// Milliseconds left.
     Delay(u32),
@@ -186,7 +168,7 @@ impl Loops {
 /// What a turn was called with.
 #[derive(Clone, Copy, Debug)]
 struct Moment<'a> {
-    image: Form<'a>,
+    image: &'a Image,
     sample: u8,
     /// The sample of the turn before.
     before: u8,
@@ -196,17 +178,15 @@ struct Moment<'a> {
 
 impl Unit {
     /// A turn "with a sample of inputs 1 to 4 (bits 0 to 3), elapsed
-    /// milliseconds, and microsteps done since the last turn". E11: "A turn is
-    /// given the encoder count too, signed".
+    /// milliseconds, and microsteps done since the last turn".
     pub fn turn(
         &mut self,
         image: &[u8],
         sample: u8,
         elapsed: u32,
         steps: u32,
-        count: i32,
     ) -> Result<Action, TurnRefusal> {
-        let Some(image) = Form::of(image) else {
+        let Ok(image) = <&Image>::try_from(image) else {
             return Err(TurnRefusal::ImageLength);
         };
         if sample > ALL_HIGH {
@@ -215,30 +195,23 @@ impl Unit {
         if steps > self.motion.number {
             return Err(TurnRefusal::Steps);
         }
-        self.add_report(steps);
+        self.count(steps);
         let before = std::mem::replace(&mut self.sample, sample);
-        self.encoder.give(count);
         self.motion = if self.running {
             self.advance(Moment { image, sample, before, elapsed, steps })
         } else {
-            self.idle_turn(before, sample, steps)
+            Motion::STILL
         };
         Ok(self.motion.action(self.settings.turned))
     }
 
     /// "The report belongs to the last action answered, even when `T` came
     /// between, and is counted first".
-    fn add_report(&mut self, steps: u32) {
-        self.position.number = self.reported(steps);
-    }
-
-    /// The position once so many steps are reported, of those that were asked for.
-    pub fn reported(&self, steps: u32) -> u32 {
-        let here = self.position.number;
+    fn count(&mut self, steps: u32) {
         match self.motion {
-            Motion { uncounted: true, .. } => here,
-            Motion { direction: Direction::Up, .. } => here + steps,
-            Motion { direction: Direction::Down, .. } => here - steps,
+            Motion { homing: true, .. } => {}
+            Motion { direction: Direction::Up, .. } => self.position.number += steps,
+            Motion { direction: Direction::Down, .. } => self.position.number -= steps,
         }
     }
 
@@ -246,30 +219,23 @@ impl Unit {
         match self.wait {
             Wait::Nothing => self.take(now),
             Wait::Move(on) => self.serve_move(on, now),
-            Wait::Try(on) => self.serve_try(on, now.sample, now.steps),
             Wait::Home(leg) => self.serve_leg(leg, now),
             Wait::Delay(left) => self.serve_delay(left, now.elapsed),
             Wait::Input(level) => self.await_level(level, now.sample),
         }
     }
 
-    /// A finite move ends when it is used up, and E11 judges it. Of an endless
-    /// one "steps count first, then the edge, then the end of the range". E5: a
-    /// closed limit "counts after the edge, before the end of the range".
+    /// A finite move ends when it is used up. Of an endless one "steps count
+    /// first, then the edge, then the end of the range".
     fn serve_move(&mut self, on: Move, now: Moment) -> Motion {
         let on = Move { left: on.left - now.steps, ..on };
         let fell = now.before & !now.sample & INPUT_2 != 0;
         if on.endless && fell {
             return self.done();
         }
-        if on.left == 0 && !on.endless {
-            return self.judge(0, now.sample);
-        }
-        if self.limit_is_closed(on.direction, now.sample) {
-            return self.done();
-        }
-        match on.left {
-            0 => self.stop(Code::Range),
+        match (on.left, on.endless) {
+            (0, true) => self.stop(Code::Range),
+            (0, false) => self.done(),
             _ => self.wait_for_move(on),
         }
     }
@@ -283,7 +249,6 @@ impl Unit {
             Leg::Away { left, then } => self.leg_left(Leg::Away { left: left - now.steps, then }),
             Leg::Toward { .. } if cut => {
                 self.set_position(0);
-                self.encoder.take_as(0);
                 self.done()
             }
             Leg::Toward { left } => self.leg_left(Leg::Toward { left: left - now.steps }),
@@ -330,17 +295,15 @@ impl Unit {
         };
         self.next += 1;
         match command {
-            Command::MoveTo(_) | Command::MoveUp(_) | Command::MoveDown(_) => {
-                return self.take_move(command, now.sample)
-            }
+            Command::MoveTo(_) | Command::MoveUp(_) | Command::MoveDown(_) => return self.take_move(command),
             Command::Home(limit) => return self.take_home(limit, now.sample),
-            Command::SetPosition(number) => return self.take_position(number),
             Command::Delay(time) => return self.serve_delay(time.into(), 0),
             Command::Await(level) => return self.await_level(level, now.sample),
             Command::Execute(slot) => return self.execute(slot, now.image),
             Command::Skip(level) => self.next += usize::from(level.is_in(now.sample)),
             Command::Open => self.loops.open(self.next),
             Command::Close(times) => self.next = self.loops.close(times).unwrap_or(self.next),
+            Command::SetPosition(number) => self.set_position(number),
             Command::Speed(speed) => self.settings.speed = speed,
             Command::Slope(slope) => self.settings.slope = slope,
             Command::FlagLow(low) => self.settings.flag_low = low,
@@ -351,70 +314,40 @@ impl Unit {
             Command::Offset(offset) => self.settings.offset = offset,
             Command::Outputs(outputs) => self.settings.outputs = outputs,
             Command::Baud(baud) => self.settings.baud = baud,
-            Command::Modes(modes) => self.set_modes(modes),
-            Command::JogDistance(distance) => self.settings.jog_distance = distance,
-            Command::Allowed(counts) => self.settings.allowed = counts,
-            Command::Ratio(ratio) => self.settings.ratio = Ratio(ratio),
-            Command::Tries(tries) => self.settings.tries = tries,
-            Command::Recover => self.overload = false,
         }
         Motion::STILL
     }
 
-    /// `A`, `P`, `D`: "7 comes before 11", and E11's 9 is "tested before 7".
-    fn take_move(&mut self, command: Command, sample: u8) -> Motion {
-        if self.overload {
-            return self.stop(Code::Overload);
-        }
+    /// `A`, `P`, `D`: "7 comes before 11. Such a finite move makes no step."
+    fn take_move(&mut self, command: Command) -> Motion {
         if !self.position.known {
             return self.stop(Code::Unknown);
         }
-        match command {
-            Command::MoveUp(0) => self.take_endless(Direction::Up, sample),
-            Command::MoveDown(0) => self.take_endless(Direction::Down, sample),
-            _ => self.take_finite(command, sample),
-        }
-    }
-
-    /// "greatest number is the distance to the end of the range"
-    fn take_endless(&mut self, direction: Direction, sample: u8) -> Motion {
-        // "a new `P0` or `D0` starts it from `V`"
-        self.endless_speed = self.settings.speed;
-        let left = self.room(direction);
-        self.take_on(Move { direction, left, endless: true }, sample)
-    }
-
-    /// A move that would leave the range "makes no step"; "`A` to the present
-    /// position ends at once".
-    fn take_finite(&mut self, command: Command, sample: u8) -> Motion {
         let here = self.position.number;
-        let Some(there) = self.target(command) else {
-            return self.stop(Code::Range);
+        let (up, down) = (FARTHEST - here, here);
+        let (direction, left, room, endless) = match command {
+            Command::MoveTo(there) if there == here => return self.done(),
+            Command::MoveTo(there) if there > here => (Direction::Up, there - here, up, false),
+            Command::MoveTo(there) => (Direction::Down, here - there, down, false),
+            Command::MoveUp(0) => (Direction::Up, up, up, true),
+            Command::MoveUp(steps) => (Direction::Up, steps, up, false),
+            Command::MoveDown(0) => (Direction::Down, down, down, true),
+            Command::MoveDown(steps) => (Direction::Down, steps, down, false),
+            _ => return Motion::STILL,
         };
-        let left = here.abs_diff(there);
-        let direction = if there > here { Direction::Up } else { Direction::Down };
-        match left {
-            0 => self.judge(0, sample),
-            _ => self.take_on(Move { direction, left, endless: false }, sample),
+        if left > room {
+            return self.stop(Code::Range);
         }
-    }
-
-    /// E5: "at taking, 7 and 11 come first"; a limit "already closed allows no
-    /// step".
-    fn take_on(&mut self, on: Move, sample: u8) -> Motion {
-        if self.limit_is_closed(on.direction, sample) {
-            return self.done();
+        if endless {
+            // "a new `P0` or `D0` starts it from `V`"
+            self.endless_speed = self.settings.speed;
         }
-        self.wait_for_move(on)
+        self.wait_for_move(Move { direction, left, endless })
     }
 
     /// `Z n`: "If cut, move away at most 10,000 until clear; then toward zero at
-    /// most n until cut", which E2 makes n + 400. E5: "`Z` taken with bit 1 set
-    /// stops the run with 11".
+    /// most n until cut", which E2 makes n + 400.
     fn take_home(&mut self, limit: u32, sample: u8) -> Motion {
-        if self.has_limits() {
-            return self.stop(Code::Range);
-        }
         let toward = limit + EXTRA;
         if self.flag_is_cut(sample) {
             self.wait_for_leg(Leg::Away { left: AWAY, then: toward })
@@ -425,8 +358,8 @@ impl Unit {
 
     /// "`e` makes the slot's text the current text (not where it stops the run
     /// with 1), closes all loops and begins it."
-    fn execute(&mut self, slot: u8, image: Form) -> Motion {
-        let Some(text) = image.text(slot.into()) else {
+    fn execute(&mut self, slot: u8, image: &Image) -> Motion {
+        let Some(text) = image::text(image, slot.into()) else {
             return self.stop(Code::NotFound);
         };
         self.text.set(text);
@@ -440,7 +373,7 @@ impl Unit {
         (sample & INPUT_3 != 0) != self.settings.flag_low
     }
 
-    pub(crate) fn set_position(&mut self, number: u32) {
+    fn set_position(&mut self, number: u32) {
         self.position.number = number;
         self.position.known = true;
     }
@@ -456,13 +389,13 @@ impl Unit {
     }
 
     /// Nothing is left to wait for; the next turn takes the next command.
-    pub(crate) fn done(&mut self) -> Motion {
+    fn done(&mut self) -> Motion {
         self.wait = Wait::Nothing;
         Motion::STILL
     }
 
     /// A fault stops the run: the held code is "set by a fault stop".
-    pub(crate) fn stop(&mut self, code: Code) -> Motion {
+    fn stop(&mut self, code: Code) -> Motion {
         self.running = false;
         self.wait = Wait::Nothing;
         self.code = code;

@@ -3,10 +3,8 @@
 use crate::address::Reach;
 use crate::command::Level;
 use crate::decimal::Decimal;
-use crate::encoder::{Encoder, Ratio};
 use crate::fault::Fault;
-use crate::form::{Form, FormMut};
-use crate::jog::Jog;
+use crate::image::{self, Image};
 use crate::line::{self, Body, Drive, Immediate, Line};
 use crate::packet;
 use crate::receiver::{Framing, Receiver};
@@ -37,21 +35,11 @@ pub struct Settings {
     pub outputs: u8,
     /// `b`
     pub baud: u16,
-    /// `n`
-    pub modes: u8,
-    /// `B`
-    pub jog_distance: u32,
-    /// `aC`
-    pub allowed: u16,
-    /// `aE`
-    pub ratio: Ratio,
-    /// `au`
-    pub tries: u32,
 }
 
 impl Default for Settings {
     /// "Defaults: V 305175, L 1000, j 256, o 1500, m 25, h 10, last sample 15,
-    /// all else 0, baud 9600." E11: "the three start at their least".
+    /// all else 0, baud 9600."
     fn default() -> Self {
         Settings {
             speed: 305_175,
@@ -64,11 +52,6 @@ impl Default for Settings {
             turned: false,
             outputs: 0,
             baud: 9600,
-            modes: 0,
-            jog_distance: 0,
-            allowed: 1,
-            ratio: Ratio(1000),
-            tries: 1,
         }
     }
 }
@@ -104,22 +87,17 @@ pub struct Unit {
     pub(crate) loops: Loops,
     /// "what it waits for".
     pub(crate) wait: Wait,
-    /// E5: the jog that is on, none while a run is.
-    pub(crate) jog: Option<Jog>,
     /// "the last action answered".
     pub(crate) motion: Motion,
     /// E3: "the endless speed, new in the unit's record".
     pub(crate) endless_speed: u32,
-    /// E11: the encoder, and whether an overload is held.
-    pub(crate) encoder: Encoder,
-    pub(crate) overload: bool,
     /// The number "of the last OEM frame for this unit or its groups not
     /// refused (at start there is none)".
     last: Option<u8>,
 }
 
 /// "at start: unit number not 1 to 16, then image not 4,160 bytes, then bad
-/// image"; E7: "01's length refusal now means neither length"
+/// image"
 #[derive(Clone, Copy, Debug, PartialEq, Eq)]
 pub enum StartRefusal {
     /// The unit's number is not 1 to 16.
@@ -164,14 +142,14 @@ impl Unit {
         if !(1..=16).contains(&number) {
             return Err(StartRefusal::UnitNumber);
         }
-        let Some(image) = Form::of(image) else {
+        let Ok(image) = <&Image>::try_from(image) else {
             return Err(StartRefusal::ImageLength);
         };
-        if !image.was_good() {
+        if !image::was_good(image) {
             return Err(StartRefusal::ImageBad);
         }
         let mut unit = Unit::fresh(number);
-        match image.text(0) {
+        match image::text(image, 0) {
             None => unit.code = Code::NotFound,
             Some([]) => {}
             Some(program) => {
@@ -195,11 +173,8 @@ impl Unit {
             next: 0,
             loops: Loops::default(),
             wait: Wait::Nothing,
-            jog: None,
             motion: Motion::STILL,
             endless_speed: 0,
-            encoder: Encoder::default(),
-            overload: false,
             last: None,
         }
     }
@@ -210,14 +185,14 @@ impl Unit {
         if answer.len() < packet::PACKET {
             return Err(FeedRefusal::Buffer);
         }
-        let Some(mut image) = FormMut::of(image) else {
+        let Ok(image) = <&mut Image>::try_from(image) else {
             return Err(FeedRefusal::ImageLength);
         };
         let (consumed, frame) = self.receiver.take(bytes);
         let answered = match frame {
             None => 0,
             Some((reach, framing)) => {
-                let outcome = self.heed(framing, &mut image);
+                let outcome = self.heed(framing, image);
                 match reach {
                     Reach::Alone => self.answer(outcome, framing, answer),
                     Reach::Group => 0,
@@ -229,7 +204,7 @@ impl Unit {
 
     /// Obeys a frame, or answers a repeat; the number of an OEM frame that is
     /// not refused is kept.
-    fn heed(&mut self, framing: Framing, image: &mut FormMut) -> Result<Data, Fault> {
+    fn heed(&mut self, framing: Framing, image: &mut Image) -> Result<Data, Fault> {
         let Framing::Oem { number, repeat } = framing else {
             return self.obey(image);
         };
@@ -248,7 +223,7 @@ impl Unit {
     fn afresh(&self) -> Data {
         match self.receiver.body() {
             Some(b"$") => Data::Text,
-            Some(b"?0") => Data::Number(self.told_position()),
+            Some(b"?0") => Data::Number(self.position.number),
             Some(b"?2") => Data::Number(self.settings.speed),
             Some(b"?4") => Data::Number(self.sample.into()),
             Some(b"?5") => Data::Number(self.endless_speed),
@@ -259,17 +234,14 @@ impl Unit {
     }
 
     /// Does what the received body asks for.
-    fn obey(&mut self, image: &mut FormMut) -> Result<Data, Fault> {
+    fn obey(&mut self, image: &mut Image) -> Result<Data, Fault> {
         let body = self.receiver.body().ok_or(Fault::nowhere(Code::Letter))?;
         match line::check(body, self.drive())? {
             Body::Immediate(immediate) => return Ok(self.immediate(immediate, image)),
             Body::Again => self.begin(),
             Body::EndlessSpeed(speed) => self.endless_speed = speed,
             Body::Go => self.go(),
-            Body::Line(Line { slot: Some(slot), text, .. }) => {
-                // E7: "refused with 15 [..], tested last".
-                image.store(slot.into(), text).map_err(|_| Fault::nowhere(Code::Busy))?;
-            }
+            Body::Line(Line { slot: Some(slot), text, .. }) => image::store(image, slot.into(), text),
             Body::Line(Line { slot: None, text, run }) => {
                 self.text.set(text);
                 self.loaded = true;
@@ -278,8 +250,6 @@ impl Unit {
                 }
             }
         }
-        // "any accepted line but a query ends it"
-        self.jog = None;
         Ok(Data::Nothing)
     }
 
@@ -293,7 +263,7 @@ impl Unit {
         }
     }
 
-    fn immediate(&mut self, immediate: Immediate, image: &mut FormMut) -> Data {
+    fn immediate(&mut self, immediate: Immediate, image: &mut Image) -> Data {
         match immediate {
             Immediate::Stop => {
                 self.halt();
@@ -301,14 +271,14 @@ impl Unit {
             }
             Immediate::Status => Data::Nothing,
             Immediate::Text => Data::Text,
-            Immediate::Position => Data::Number(self.told_position()),
+            Immediate::Position => Data::Number(self.position.number),
             Immediate::Speed => Data::Number(self.settings.speed),
             Immediate::Sample => Data::Number(self.sample.into()),
             Immediate::EndlessSpeed => Data::Number(self.endless_speed),
             Immediate::Resolution => Data::Number(1 << self.settings.resolution),
             Immediate::Offset => Data::Number(self.settings.offset.into()),
             Immediate::ClearAll => {
-                image.clear();
+                image::clear(image);
                 Data::Nothing
             }
         }
@@ -335,15 +305,13 @@ impl Unit {
         self.code = Code::Clear;
     }
 
-    /// `T`: "A failed homing, or `T` during one, makes the position unknown". It
-    /// ends a jog.
+    /// `T`: "A failed homing, or `T` during one, makes the position unknown".
     fn halt(&mut self) {
         if let Wait::Home(_) = self.wait {
             self.position.known = false;
         }
         self.running = false;
         self.wait = Wait::Nothing;
-        self.jog = None;
     }
 
     /// Writes the answer: "A refused frame carries its own code", with E6 "the

@@ -40,24 +40,24 @@ const CHECKS: [f64; 2] = [1.5, 1.5];
 /// Feed and turn: at most so many times the model in time and in instructions, and the most instructions of ours that the gate
 /// lets pass, so that a lost shape is seen at once. A number of ten digits is written without a division, which the model makes.
 const PACE: [(&str, [f64; 2], f64); 18] = [
-    ("feed, short frames, 1 byte a call", [1.4, 1.1], 163.0),
-    ("feed, short frames, 16 bytes a call", [1.1, 1.05], 79.0),
-    ("feed, short frames, 256 bytes a call", [1.1, 1.05], 78.0),
-    ("feed, 200-byte bodies, 1 byte a call", [1.4, 1.1], 160.0),
+    ("feed, short frames, 1 byte a call", [1.4, 1.1], 155.0),
+    ("feed, short frames, 16 bytes a call", [1.1, 1.05], 77.0),
+    ("feed, short frames, 256 bytes a call", [1.1, 1.05], 76.0),
+    ("feed, 200-byte bodies, 1 byte a call", [1.4, 1.1], 153.0),
     ("feed, 200-byte bodies, 16 bytes a call", [1.1, 1.05], 69.0),
     ("feed, 200-byte bodies, 256 bytes a call", [1.1, 1.05], 64.0),
-    ("feed, short OEM frames, 1 byte a call", [1.4, 1.1], 180.0),
+    ("feed, short OEM frames, 1 byte a call", [1.4, 1.1], 172.0),
     ("feed, short OEM frames, 16 bytes a call", [1.1, 1.05], 104.0),
     ("feed, short OEM frames, 256 bytes a call", [1.1, 1.05], 102.0),
-    ("feed, 200-byte OEM bodies, 1 byte a call", [1.4, 1.1], 194.0),
+    ("feed, 200-byte OEM bodies, 1 byte a call", [1.4, 1.1], 189.0),
     ("feed, 200-byte OEM bodies, 16 bytes a call", [1.1, 1.05], 118.0),
     ("feed, 200-byte OEM bodies, 256 bytes a call", [1.1, 1.05], 113.0),
-    ("feed, ten-digit answers, 1 byte a call", [4.0, 1.75], 300.0),
-    ("feed, ten-digit answers, a frame a call", [4.0, 2.1], 228.0),
-    ("turn, idle", [1.3, 1.15], 101.0),
-    ("turn, in a move", [1.3, 1.15], 136.0),
-    ("turn, a command taken", [2.4, 2.3], 376.0),
-    ("turn, a jump", [1.5, 1.5], 2350.0),
+    ("feed, ten-digit answers, 1 byte a call", [4.0, 1.75], 290.0),
+    ("feed, ten-digit answers, a frame a call", [4.0, 2.1], 223.0),
+    ("turn, idle", [1.3, 1.15], 30.0),
+    ("turn, in a move", [1.3, 1.15], 84.0),
+    ("turn, a command taken", [2.4, 2.3], 199.0),
+    ("turn, a jump", [1.5, 1.5], 2266.0),
 ];
 
 const ROUNDS: usize = 15;

@@ -1,7 +1,7 @@
 //! Calls of the C port as `calls.c` reads them, with the model's answers.
 
 use drive_model::count::{self, Uncounted};
-use drive_model::form::Form;
+use drive_model::image;
 use drive_model::line;
 use drive_model::ramp::{self, Figures, Length, RampRefusal};
 
@@ -47,10 +47,10 @@ impl Call {
             Call::Line(body) => line::check_idle(body).map_or_else(|fault| fault.code as u64, |()| 0),
             Call::Place(body) => line::check_idle(body).err().and_then(|fault| fault.place).map_or(0, u64::from),
             Call::Text(text) => u64::from(!line::is_stored_text(text)),
-            Call::Image(bytes) => match Form::of(bytes) {
-                Some(image) if image.is_good() => 0,
-                Some(_) => 2,
-                None => 1,
+            Call::Image(bytes) => match bytes[..].try_into() {
+                Ok(image) if image::is_good(image) => 0,
+                Ok(_) => 2,
+                Err(_) => 1,
             },
             Call::Count(body) => count::count(body).unwrap_or_else(|why| REFUSED + number_of(why)),
             &Call::Ramp(letter, [v, l, endless, n]) => {

@@ -10,7 +10,6 @@ use calls::{Call, FIGURES, REFUSED};
 use drive_model::image::IMAGE;
 use drive_model::pace::{self, Mode};
 use drive_model::random::{Lines, Random};
-use drive_model::small::SMALL;
 
 /// What runs a program for x86-64 on any processor.
 const ON: &str = concat!(env!("CARGO_MANIFEST_DIR"), "/../on-x86-64");
@@ -78,11 +77,7 @@ fn text(random: &mut Random) -> Vec<u8> {
     }
 }
 
-/// An image of either form, good or damaged, or of another length.
 fn image(random: &mut Random) -> Vec<u8> {
-    if random.chance(40) {
-        return small_image(random);
-    }
     let mut image = lines(random).image();
     if random.chance(60) {
         lines(random).damage_image(&mut image);
@@ -90,18 +85,6 @@ fn image(random: &mut Random) -> Vec<u8> {
     let mut bytes = image.to_vec();
     if random.chance(10) {
         bytes.resize(random.pick(&[0, 1, 64, IMAGE - 1, IMAGE + 1, 2 * IMAGE]), 0);
-    }
-    bytes
-}
-
-fn small_image(random: &mut Random) -> Vec<u8> {
-    let mut image = if random.chance(20) { lines(random).old_small_image() } else { lines(random).small_image() };
-    if random.chance(60) {
-        lines(random).damage_small(&mut image);
-    }
-    let mut bytes = image.to_vec();
-    if random.chance(10) {
-        bytes.resize(random.pick(&[0, 64, SMALL - 1, SMALL + 1, 2 * SMALL]), 0);
     }
     bytes
 }

@@ -7,11 +7,11 @@ use Rattle.bench.proofs.main.Statement.{statement}
 use Rattle.bench.proofs.main.Tie as tie
 
 abbrev invariant-loop : tie.invariant-loop
-invariant-loop chunk₀ line₀ image₀ other₀ buffer₀ body₀ text₀ b₀ r₀ turns₀ chunk line image other buffer body text b r turns =
-    (4096 ≡ length chunk) × ((65537 ≡ length line) × ((4200 ≡ length image) × ((4200 ≡ length other) × (512 ≡ length buffer))))
+invariant-loop chunk₀ line₀ image₀ buffer₀ body₀ text₀ b₀ r₀ turns₀ chunk line image buffer body text b r turns =
+    (4096 ≡ length chunk) × ((65537 ≡ length line) × ((4200 ≡ length image) × (512 ≡ length buffer)))
 
 abbrev decreases-loop : tie.decreases-loop
-decreases-loop chunk₀ line₀ image₀ other₀ buffer₀ body₀ text₀ b₀ r₀ turns₀ chunk line image other buffer body text b r turns = turns
+decreases-loop chunk₀ line₀ image₀ buffer₀ body₀ text₀ b₀ r₀ turns₀ chunk line image buffer body text b r turns = turns
 
 pub main_spec : {M : Type 1} → statement M
 main_spec =
@@ -22,8 +22,6 @@ main_spec =
     (λ c κs. search rules)
     (λ c. search rules)
     (λ c κs. search rules)
-    (λ c. search rules)
-    (λ c κs. search rules)
     (λ c κs. search rules)
     (λ c κs. search rules)
     (λ c. search rules)
@@ -31,7 +29,6 @@ main_spec =
     (λ c. search rules)
     (λ c. search rules)
     (λ c κs. search rules)
-    (λ c. search rules)
     (λ c. search rules)
     (λ c. search rules)
     (λ c. search rules)

@@ -1,8 +1,6 @@
 -- `claims::effect_claims`: each claim is a law. Assumes nothing.
 use Rattle.claims.proofs.BodyLaws.{each-body}
-use Rattle.claims.proofs.TurnLaws.{start-defaults, starts-good, starts-held, feeds, serves, idles, waits, commands, answers, levels}
-use Rattle.claims.proofs.JogLaws.{jog-turns}
-use Rattle.claims.proofs.CorrectionLaws.{correct_turns, try-turns, taken-turns, encoder-turns}
+use Rattle.claims.proofs.TurnLaws.{start-defaults, starts-good, starts-held, feeds, serves, idles, idle, waits, commands, answers, levels}
 use Rattle.claims.proofs.SpeedLaws as speed
 use Rattle.claims.proofs.effect_claims.Statement.{statement}
 use Rattle.claims.proofs.effect_claims.Tie as tie
@@ -16,13 +14,9 @@ returns c = record {
   feeds = feeds;
   serves = serves;
   idles = idles;
-  jogs = jog-turns;
+  idle = idle;
   waits = waits;
   commands = commands;
-  corrects = correct_turns;
-  tries = try-turns;
-  takes-counts = taken-turns;
-  given-counts = encoder-turns;
   answers = answers;
   levels = levels;
   speed = record { sets = speed.sets; stays = speed.stays; only = speed.only; busy = speed.busy; told = speed.told };

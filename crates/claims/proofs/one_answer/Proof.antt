@@ -2,10 +2,6 @@
 -- Assumes nothing.
 use Rattle.parts.proofs.Laws.{put_once}
 use Rattle.digits.proofs.Writing.{written_once}
-use Rattle.big.proofs.CallLaws as big
-use Rattle.small.proofs.PutLaws as small
-use Rattle.small.proofs.ClearLaws as small-clear
-use Rattle.transfer.proofs.MoveLaws.{small_once, big_once}
 use Rattle.image.proofs.CallLaws.{stored_once, cleared_once}
 use Rattle.answers.proofs.Writing.{packet_once}
 use Rattle.host.proofs.LineLaws.{line_once}
@@ -20,12 +16,6 @@ returns c =
     record {
       put = λ buffer at bytes r s x y. put_once;
       written = λ buffer at text r s x y. written_once;
-      big_stored = λ image slot text r s x y. big.stored_once;
-      big_cleared_lem = λ image r s x y. big.cleared_once;
-      small-stored = λ image slot text r s x y. small.stored_once;
-      small-cleared = λ image r s x y. small-clear.cleared_once;
-      moved-small = λ source target r s x y. small_once;
-      moved_big = λ source target r s x y. big_once;
       stored = λ image slot text r s x y. stored_once;
       cleared = λ image r s x y. cleared_once;
       packet = λ buffer status bytes r s x y. packet_once;
@@ -35,7 +25,7 @@ returns c =
       heard = λ p body unit bytes r s x y. heard_once;
       started = λ number image body text d e. started_once d e;
       fed = λ u body text bytes image buffer d e. fed_once d e;
-      turned = λ u text sample ms steps count image r s x y. turned_once u text sample ms steps count image;
+      turned = λ u text sample ms steps image r s x y. turned_once u text sample ms steps image;
     }
 
 pub one-answer-spec : {M : Type 1} → statement M

@@ -1,8 +1,6 @@
--- `commands::command_of` meets its contract: each arm knows what the name's row asks. Assumes nothing.
-use mathlib.Core.Path.{sym, ◌∙◌}
-use borrow.Author.Tests.{not-true, not-false}
-use Rattle.commands.proofs.TableLaws.{no_name, named_as_lem}
+-- `commands::command_of` meets its contract: each arm knows what the letter's row asks. Assumes nothing.
 use borrow.Author.Rules.{rules}
+use Rattle.commands.proofs.TableLaws.{named_as_lem}
 use Rattle.commands.proofs.command_of.Statement.{statement}
 use Rattle.commands.proofs.command_of.Tie as tie
 
@@ -11,8 +9,6 @@ command-of-spec =
     tie.close
     (tie.spec
     (λ c κs. search rules)
-    (λ c. no_name _ _ (sym c.before.is-typed.ensures ∙ not-true c.before.is-typed.result c.if1.true))
-    (λ c κs. sym c.before.is-typed.ensures ∙ not-false c.before.is-typed.result c.if1.false)
     (λ c. search rules)
     (λ c. search rules)
     (λ c κs. search rules)

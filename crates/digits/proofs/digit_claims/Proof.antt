@@ -10,9 +10,9 @@ use Rattle.digits.proofs.digit_claims.Tie as tie
 returns : tie.Need-returns
 unfolding operand_up_to operand_at operand_of digit_run value_after digits_in digits_of ascii decimal
 returns c = record {
-  reads-back = read_back;
+  reads_back = read_back;
   spelled = spelled;
-  reads-limited = read_limited;
+  reads_limited = read_limited;
   written_apart = written_apart;
   value_below = run-below;
   no_wrap = refl;

@@ -6,7 +6,7 @@ use native.Mathlib.Omega.{arith}
 use borrow.Author.Rules.{rules}
 use lib.ListN.{length}
 use Rattle.digits.specs.Operand.{operand_at}
-use Rattle.digits.proofs.Reading.{Reading, within, next, past-run, at-missing, at-number, at_above}
+use Rattle.digits.proofs.Reading.{Reading, within, next, past-run, at_missing, at_number, at_above}
 use Rattle.digits.proofs.read_operand.Statement.{statement}
 use Rattle.digits.proofs.read_operand.Tie as tie
 
@@ -22,13 +22,13 @@ loop-again c =
 
 returns : tie.Need-returns invariant-loop decreases-loop
 unfolding operand_at
-returns c = at-missing _ _ _ c.if1.true (past-run _ _ _ _ _ c.before.before.loop.invariant c.before.loop-test.false).0
+returns c = at_missing _ _ _ c.if1.true (past-run _ _ _ _ _ c.before.before.loop.invariant c.before.loop-test.false).0
 
 returns-2 : tie.Need-returns-2 invariant-loop decreases-loop
 unfolding operand_at
 returns-2 c =
     let e = past-run _ _ _ _ _ c.before.before.before.loop.invariant c.before.before.loop-test.false in
-    at-number _ _ _ _ c.before.if1.false e.0 e.1 c.if2.true
+    at_number _ _ _ _ c.before.if1.false e.0 e.1 c.if2.true
 
 returns-3 : tie.Need-returns-3 invariant-loop decreases-loop
 unfolding operand_at

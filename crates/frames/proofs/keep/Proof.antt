@@ -7,7 +7,7 @@ use mathlib.Core.Path.{◌≡◌, refl, sym, ◌∙◌}
 use lib.ListN.{length, drop}
 use Rattle.frames.specs.Receive.{receiver_at, past, receive_of}
 use Rattle.frames.proofs.Stream.{turned}
-use Rattle.frames.proofs.Runs.{stays-kept, stays-full, leaves_by}
+use Rattle.frames.proofs.Runs.{stays_kept, stays-full, leaves_by}
 use Rattle.frames.proofs.keep.Statement.{statement}
 use Rattle.frames.proofs.keep.Tie as tie
 
@@ -43,7 +43,7 @@ loop-again c =
       omega arith,
       λ u.
           turned _ _ u _ (omega arith) (k.invariant.2 u)
-          (stays-kept _ _ _ u _ inside stay c.if2.true) refl,
+          (stays_kept _ _ _ u _ inside stay c.if2.true) refl,
     )
 
 loop-again-2 : tie.Need-loop-preserved-2 invariant-loop decreases-loop

@@ -24,7 +24,6 @@ returns c = record {
   written_apart = claim.written_apart;
   k8_written = claim.k8_written;
   slot-written = claim.slot-written;
-  encoder-written = claim.encoder-written;
 }
 
 pub host-claims-spec : {M : Type 1} → statement M

@@ -2,6 +2,7 @@
 -- Assumes nothing.
 use native.Mathlib.Omega.{arith}
 use borrow.Author.Rules.{rules}
+use Rattle.host.specs.Host.{host_list}
 use Rattle.host.proofs.AddLaws.{made_inside}
 use Rattle.host.proofs.LineLaws.{line-passes, line-written}
 use Rattle.host.proofs.write_line.Statement.{statement}

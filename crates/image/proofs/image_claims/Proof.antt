@@ -1,7 +1,7 @@
--- `image::image_claims`: each claim is a law of both forms.
+-- `image::image_claims`: each claim is a law of the slots, of a store or of a clear, and the two sums compute.
 -- Assumes nothing.
-use Rattle.image.proofs.FormLaws.{lengths, big_room}
-use Rattle.image.proofs.HeldLaws.{text-passes, text-fits, no_text, no_slot}
+use mathlib.Core.Path.{refl}
+use Rattle.image.proofs.HeldLaws.{text-passes, text-fits}
 use Rattle.image.proofs.CallLaws.{good-means, good-when, slot-now, good-before, older-means}
 use Rattle.image.proofs.ToldLaws.{told_by_texts}
 use Rattle.image.proofs.StoreLaws.{stores, store-empty}
@@ -11,16 +11,15 @@ use Rattle.image.proofs.image_claims.Tie as tie
 
 returns : tie.Need-returns
 returns c = record {
-  lengths = lengths;
-  room = λ image k n e. big_room image e k n;
+  contents = refl;
+  whole = refl;
   good-means = good-means;
   good-when = good-when;
   slot-now = slot-now;
   good-before = good-before;
   older-means = older-means;
-  texts-pass = text-passes;
+  texts_pass = text-passes;
   texts_fit = text-fits;
-  no_slot = λ image k l. (no_slot image k l, no_text image k (no_slot image k l));
   told_by_texts = told_by_texts;
   stores = stores;
   store-empty = store-empty;

@@ -11,10 +11,10 @@ unfolding started ended loaded_as
 changed-spec =
     tie.close
     (tie.spec (λ c. search rules) (λ c. search rules) (λ c κs. search rules) (λ c. search rules) (λ c κs. search rules) (λ c. search rules)
-    (λ c κs. search rules) (λ c κs. search rules) (λ c. search rules) (λ c κs. search rules) (λ c κs. search rules) (λ c. search rules)
+    (λ c κs. search rules) (λ c. search rules) (λ c κs. search rules) (λ c. search rules)
     (λ c. simp c.enum_told.given.1)
     (λ c. simp (c.stop.ensures, c.before.enum-told2.given.1))
     (λ c. simp (c.resume.ensures, c.before.enum-told3.given.1))
-    (λ c. simp (c.begin.ensures, c.before.resume2.ensures, c.before.before.before.change.given.1))
-    (λ c. simp (c.begin2.ensures, c.before.resume3.ensures, c.before.before.before.change2.given.1))
+    (λ c. simp (c.begin.ensures, c.before.before.change.given.1))
+    (λ c. simp (c.begin2.ensures, c.before.before.change2.given.1))
     (λ c. simp c.before.change3.given.1))

@@ -10,12 +10,6 @@ invariant-loop stream most body₀ text₀ image₀ buffer₀ u₀ sum₀ at₀ 
 abbrev decreases-loop : tie.decreases-loop
 decreases-loop stream most body₀ text₀ image₀ buffer₀ u₀ sum₀ at₀ body text image buffer u sum at = length stream - at
 
--- no call changes how long the slices are that it is lent
-loop-again : tie.Need-loop-preserved invariant-loop decreases-loop
-loop-again c =
-    let kept = c.before.before.before.before.before.before.before.before.before.before.before.before.before.before.before.before.loop.invariant.1 in
-    search (rules, kept.0, kept.1)
-
 pub feed-stream-spec : {M : Type 1} → statement M
 feed-stream-spec =
     tie.close
@@ -31,7 +25,7 @@ feed-stream-spec =
     (λ c κs. search rules)
     (λ c κs. search rules)
     (λ c. search rules)
-    loop-again
+    (λ c. search rules)
     (λ c. search rules)
     (λ c. search rules)
     (λ c. search rules))

@@ -7,19 +7,19 @@ use native.Mathlib.Omega.{arith}
 use lib.ListN.{length}
 use borrow.Rule.Slice.PartMut.{put_mid}
 use borrow.Author.Rules.{rules}
-use Rattle.parts.proofs.Laws.{back-front, is_put, is_full_lem}
+use Rattle.parts.proofs.Laws.{back_front, is_put, is_full}
 use Rattle.parts.proofs.put_at.Statement.{statement}
 use Rattle.parts.proofs.put_at.Tie as tie
 
 returns : tie.Need-returns
 returns c =
     let a = c.before.before.before.args in
-    is_full_lem a.dst.now a.at a.src.now (omega arith)
+    is_full a.dst.now a.at a.src.now (omega arith)
 
 returns-2 : tie.Need-returns-2
 returns-2 c =
     let a = c.before.before.before.before.args in
-    is_full_lem a.dst.now a.at a.src.now (omega arith)
+    is_full a.dst.now a.at a.src.now (omega arith)
 
 returns-3 : tie.Need-returns-3
 returns-3 c =
@@ -31,7 +31,7 @@ returns-3 c =
     a.at
     a.src.now
     (omega arith)
-    (ap (λ (l : List ℕ). put_mid a.at k xs l) c.before.before.copy.ensures.1 ∙ back-front xs a.at k a.src.now (omega arith) (omega arith))
+    (ap (λ (l : List ℕ). put_mid a.at k xs l) c.before.before.copy.ensures.1 ∙ back_front xs a.at k a.src.now (omega arith) (omega arith))
 
 pub put-at-spec : {M : Type 1} → statement M
 put-at-spec =

@@ -7,19 +7,19 @@ use native.Mathlib.Omega.{arith}
 use lib.ListN.{length, take, drop, replicate, length-take, length-drop, length-replicate}
 use borrow.Rule.Slice.PartMut.{put_mid}
 use borrow.Author.Rules.{rules}
-use Rattle.parts.proofs.Laws.{back_whole, is_put, is_full_lem}
+use Rattle.parts.proofs.Laws.{back_whole, is_put, is_full}
 use Rattle.parts.proofs.wipe_at.Statement.{statement}
 use Rattle.parts.proofs.wipe_at.Tie as tie
 
 returns : tie.Need-returns
 returns c =
     let a = c.before.before.args in
-    is_full_lem a.dst.now a.at (replicate a.n 0) (omega (arith, length-replicate {A = ℕ} a.n 0))
+    is_full a.dst.now a.at (replicate a.n 0) (omega (arith, length-replicate {A = ℕ} a.n 0))
 
 returns-2 : tie.Need-returns-2
 returns-2 c =
     let a = c.before.before.before.args in
-    is_full_lem a.dst.now a.at (replicate a.n 0) (omega (arith, length-replicate {A = ℕ} a.n 0))
+    is_full a.dst.now a.at (replicate a.n 0) (omega (arith, length-replicate {A = ℕ} a.n 0))
 
 returns-3 : tie.Need-returns-3
 returns-3 c =

@@ -1,6 +1,6 @@
 -- `turns::run_on` meets its contract: the wait says whether a command is taken. Assumes nothing.
-use Rattle.turns.specs.Turns.{running}
 use borrow.Author.Rules.{rules}
+use Rattle.turns.specs.Turns.{running}
 use Rattle.turns.proofs.run_on.Statement.{statement}
 use Rattle.turns.proofs.run_on.Tie as tie
 
@@ -16,4 +16,12 @@ run-on-spec =
     (λ c κs. search rules)
     (λ c κs. search rules)
     (λ c κs. search rules)
-    (λ c. simp (c.stay.ensures, c.before.move-on.ensures, c.before.before.serve.ensures, c.before.before.before.switches-of.ensures, c.before.before.before.before.if1.false, ← c.before.before.before.before.before.is_free.ensures)))
+    (λ c.
+    simp (
+      c.stay.ensures,
+      c.before.move-on.ensures,
+      c.before.before.serve.ensures,
+      c.before.before.before.flag-of.ensures,
+      c.before.before.before.before.if1.false,
+      ← c.before.before.before.before.before.is_free.ensures,
+    )))

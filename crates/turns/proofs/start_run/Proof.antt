@@ -1,4 +1,4 @@
--- `turns::start_run` meets its contract: the flow begins, nothing is waited for, and what a start sets is set. Assumes nothing.
+-- `turns::start_run` meets its contract: the flow begins, and what a start sets is set. Assumes nothing.
 use borrow.Author.Rules.{rules}
 use Rattle.turns.specs.Turns.{started}
 use Rattle.turns.proofs.start_run.Statement.{statement}
@@ -10,5 +10,4 @@ start-run-spec =
     tie.close
     (tie.spec
     (λ c κs. search rules)
-    (λ c κs. search rules)
-    (λ c. simp (c.resume.ensures, c.before.begin.ensures)))
+    (λ c. simp c.begin.ensures))

@@ -9,4 +9,4 @@ unfolding turn_core
 turn-core-spec =
     tie.close
     (tie.spec (λ c κs. search rules) (λ c κs. search rules) (λ c κs. search rules)
-    (λ c. simp (c.settle.ensures, c.before.step.ensures, c.before.before.first.ensures) (search rules)))
+    (λ c. simp (c.settle.ensures, c.before.step.ensures, c.before.before.first.ensures)))

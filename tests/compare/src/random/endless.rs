@@ -74,7 +74,7 @@ impl Lines<'_> {
     pub fn old_text(&mut self) -> Vec<u8> {
         let count = self.random.under(6);
         let mut words = self.words(count);
-        let letter = self.random.pick(b"AAPDzZVLnBCEuMeG");
+        let letter = self.random.pick(b"AAPDzZVLMeG");
         let width = self.random.pick(&[11, 11, 11, 12, 13, 40, 100]);
         let word = Word { letter, digits: self.wide(letter, width) };
         words.extend((letter == b'G').then(|| Word { letter: b'g', digits: Vec::new() }));
@@ -110,7 +110,7 @@ impl Lines<'_> {
 /// Makes every operand that may have zeros before it one of ten digits.
 pub fn widen(words: &mut [Word]) {
     for word in words {
-        let takes_zeros = !b"grHS".contains(&word.letter) && !word.digits.is_empty();
+        let takes_zeros = !b"gHS".contains(&word.letter) && !word.digits.is_empty();
         let zeros = if takes_zeros { DIGITS.saturating_sub(word.digits.len()) } else { 0 };
         word.digits.splice(0..0, vec![b'0'; zeros]);
     }

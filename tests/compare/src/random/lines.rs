@@ -6,9 +6,9 @@ use crate::random::endless::widen;
 use crate::random::Random;
 
 /// Letters of the commands that stand alone, the telling ones more often.
-const PLAIN: &[u8] = b"AAAAAPPPPPPDDDDDDzzzzZZZZZVLffFFmhjoJbnnBCEurMMMMMHHHHHeee";
+const PLAIN: &[u8] = b"AAAAPPPPPDDDDDzzzZZZZZVLffFFmhjoJbMMMMHHHHeee";
 /// Bytes that a damaged line may get.
-const BYTES: &[u8] = b"APDzZVLfFmhjoJbnBMgGHSeaCEurRXsTQ$?0123456789/ \n\r\0\x03~";
+const BYTES: &[u8] = b"APDzZVLfFmhjoJbMgGHSeRXsTQ$?0123456789/ \n\r\0\x03~";
 /// Immediate bodies.
 const IMMEDIATE: &[&str] = &["T", "TR", "Q", "", "$", "?0", "?2", "?4", "?5", "?5", "?6", "?7", "?9"];
 /// Bodies that begin as immediate ones do.
@@ -20,9 +20,6 @@ const NOT_IMMEDIATE: &[&str] = &[
 const NEARLY_SPEED: &[&str] = &[
     "V", "V5", "V5RR", "V5P0R", "V5L5R", "V5V6R", "V5 R", "V-5R", "V+5R", "V R", "v5R", "L5R", "RV5R", "V5TR",
 ];
-/// Bodies with an `a` or an `r` that is nearly a command.
-const NEARLY_NAMED: &[&str] =
-    &["a", "P5a", "aC5a", "aXR", "A5aR", "a5R", "aaC5R", "r5R", "P5r0", "rr7R", "C5R", "aC", "A5aER", "au"];
 /// Short bodies at the edges of the rules.
 const EDGES: &[&str] = &[
     "RR",
@@ -71,29 +68,6 @@ const EDGES: &[&str] = &[
     "ggggGGGGR",
     "\n",
     "a",
-    "aC50R",
-    "aE12800R",
-    "au9R",
-    "rR",
-    "r",
-    "r5R",
-    "aR",
-    "aXR",
-    "A5a",
-    "a5R",
-    "aCR",
-    "aC",
-    "aE",
-    "au",
-    "aC0R",
-    "aE999R",
-    "au1000001R",
-    "aaC5R",
-    "a C5R",
-    "aC00000000005R",
-    "aC0000000005R",
-    "n16R",
-    "n15R",
     "A5 R",
     "A5\nR",
     "A-1R",
@@ -105,22 +79,11 @@ const EDGES: &[&str] = &[
     "H20R",
 ];
 
-/// A letter and its digits as typed; `C`, `E` and `u` stand for `aC`, `aE` and
-/// `au`.
+/// A letter and its digits as typed.
 #[derive(Clone, Debug, PartialEq, Eq)]
 pub struct Word {
     pub letter: u8,
     pub digits: Vec<u8>,
-}
-
-impl Word {
-    /// The name as typed.
-    pub fn name(&self) -> Vec<u8> {
-        match self.letter {
-            b'C' | b'E' | b'u' => vec![b'a', self.letter],
-            letter => vec![letter],
-        }
-    }
 }
 
 /// A generator of lines for a drive.
@@ -179,7 +142,7 @@ impl Lines<'_> {
     /// The letter with an operand of its range, at times with leading zeros.
     fn word(&mut self, letter: u8) -> Word {
         let digits = match letter {
-            b'g' | b'r' => Vec::new(),
+            b'g' => Vec::new(),
             b'H' | b'G' if self.random.chance(12) => Vec::new(),
             b'H' | b'S' => vec![self.random.pick(b"01"), self.random.pick(b"12223334")],
             _ => {
@@ -210,11 +173,6 @@ impl Lines<'_> {
             b'o' => self.between(1400, 1650),
             b'J' => self.between(0, 3),
             b'b' => self.random.pick(&[9_600, 19_200, 38_400]),
-            b'n' => self.random.pick(&[0, 0, 0, 0, 0, 0, 0, 0, 1, 2, 3, 4, 5, 6, 7, 8, 8, 9, 10, 12, 15]),
-            b'C' => self.allowed(),
-            b'E' => self.ratio(),
-            b'u' => self.tries(),
-            b'B' => self.jog_distance(),
             b'M' => self.delay(),
             b'G' => self.times(),
             _ => self.slot(),
@@ -270,43 +228,6 @@ impl Lines<'_> {
         }
     }
 
-    /// How far a jog goes; often just to an end of the range, or just past it.
-    pub fn jog_distance(&mut self) -> u32 {
-        let room = self.random.pick(&[FARTHEST - self.here, self.here]);
-        match self.random.below(10) {
-            0..=5 => self.random.below(12) as u32,
-            6 => room,
-            7 => room.saturating_add(1).min(FARTHEST),
-            8 => self.random.pick(&[1, FARTHEST - 1, FARTHEST]),
-            _ => self.random.of_any_size(FARTHEST.into()) as u32,
-        }
-    }
-
-    /// An operand of `aC`.
-    pub fn allowed(&mut self) -> u32 {
-        match self.random.below(6) {
-            0..=3 => 1 + self.random.below(5) as u32,
-            _ => self.random.pick(&[1, 50, 64_999, 65_000]),
-        }
-    }
-
-    /// An operand of `aE`.
-    pub fn ratio(&mut self) -> u32 {
-        match self.random.below(6) {
-            0..=3 => self.random.pick(&[1000, 1000, 1001, 2500, 12_800, 1_000_000]),
-            4 => 1000 + self.random.below(3000) as u32,
-            _ => 1000 + self.random.below(999_001) as u32,
-        }
-    }
-
-    /// An operand of `au`.
-    pub fn tries(&mut self) -> u32 {
-        match self.random.below(6) {
-            0..=4 => 1 + self.random.below(3) as u32,
-            _ => self.random.pick(&[10, 65_536, 999_999, 1_000_000]),
-        }
-    }
-
     fn delay(&mut self) -> u32 {
         match self.random.below(10) {
             0..=5 => 1 + self.random.below(20) as u32,
@@ -342,10 +263,6 @@ impl Lines<'_> {
             b'o' => &["1399", "1651", "1650", "1400", "0"],
             b'J' => &["4", "3", "256"],
             b'b' => &["0", "9601", "28800", "96000", "76800", "4800"],
-            b'n' => &["16", "8", "15", "256", "4095", "24"],
-            b'C' => &["0", "1", "65000", "65001", "65536", "65537"],
-            b'E' => &["999", "1000", "1000000", "1000001", "0"],
-            b'u' => &["0", "1", "1000000", "1000001"],
             b'M' | b'G' => &["30001", "30000", "65536", "32768"],
             b'H' | b'S' => &["0", "1", "00", "05", "10", "15", "21", "013", "002", "99", "2"],
             b'e' | b's' => &["16", "15", "256", "20"],
@@ -469,10 +386,7 @@ impl Lines<'_> {
 
     /// One command at the edge of its range, with or without `R`.
     pub fn single(&mut self) -> Vec<u8> {
-        if self.random.chance(6) {
-            return self.random.pick(NEARLY_NAMED).as_bytes().to_vec();
-        }
-        let letter = self.random.pick(b"APDzZVLfFmhjoJbnBCEuMGHSe");
+        let letter = self.random.pick(b"APDzZVLfFmhjoJbMGHSe");
         let mut words = vec![Word { letter, digits: self.bad_digits(letter) }];
         match letter {
             b'G' => words.insert(0, self.word(b'g')),
@@ -563,8 +477,7 @@ impl Lines<'_> {
 
     /// The body made longer by leading zeros of one of its operands.
     pub fn pad(&mut self, mut body: Vec<u8>, length: usize) -> Vec<u8> {
-        let takes_zeros =
-            |pair: &[u8]| b"APDzZVLfFmhjoJbnBCEuMGes".contains(&pair[0]) && pair[1].is_ascii_digit();
+        let takes_zeros = |pair: &[u8]| b"APDzZVLfFmhjoJbMGes".contains(&pair[0]) && pair[1].is_ascii_digit();
         let places: Vec<usize> = body
             .windows(2)
             .enumerate()
@@ -671,9 +584,7 @@ impl Lines<'_> {
         }
         let mut list = Vec::new();
         for word in words {
-            list.push(b' ');
-            list.extend(word.name());
-            list.push(b' ');
+            list.extend([b' ', word.letter, b' ']);
             list.extend(self.list_operand(&word));
         }
         list
@@ -681,7 +592,7 @@ impl Lines<'_> {
 
     fn list_operand(&mut self, word: &Word) -> Vec<u8> {
         match (word.letter, &word.digits[..]) {
-            (b'g' | b'r', _) => b"-".to_vec(),
+            (b'g', _) => b"-".to_vec(),
             (b'H', b"") => b"02".to_vec(),
             (b'G', b"") => b"0".to_vec(),
             (b'H' | b'S', digits) if digits.len() != 2 && self.random.chance(90) => b"05".to_vec(),
@@ -712,7 +623,7 @@ fn fill(body: Vec<u8>, length: usize) -> Vec<u8> {
 pub fn written(words: &[Word], run: bool) -> Vec<u8> {
     let mut body = Vec::new();
     for word in words {
-        body.extend(word.name());
+        body.push(word.letter);
         body.extend(&word.digits);
     }
     body.extend(run.then_some(b'R'));

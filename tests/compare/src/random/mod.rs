@@ -1,17 +1,12 @@
 //! Random scripts in the bench's language, the same for the same seed.
 
 mod bus;
-mod encoders;
 mod endless;
 mod faulty;
-mod jogs;
 mod lines;
 mod older;
-mod packed;
-mod pairs;
 mod rare;
 mod script;
-mod tables;
 
 pub use bus::Bus;
 pub use lines::Lines;

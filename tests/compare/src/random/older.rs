@@ -26,13 +26,12 @@ const UNREADABLE: &[&str] = &[
 
 /// The shared letters that are neither loops nor skips, but `o`, which has no
 /// operand.
-const PLAIN: &[u8] = b"APDzZVLfmhjJnBMHe";
+const PLAIN: &[u8] = b"APDzZVLfmhjJMHe";
 
 /// Letters of one side, letters of other bodies, and what is none.
 const STRANGE: &[&str] = &[
-    "F0", "F1", "F", "b9600", "b19200", "b", "v200", "v", "c500", "l30", "N1", "R", "X", "s1", "s", "T", "Q",
-    "$", "?0", "&", "p5", "5", "007", "a", "u1", "r", "r", "aC50", "aE12800", "au9", "aC", " ", "/", "\r",
-    "\n", "\0", "\x7f", "-",
+    "F0", "F1", "F", "b9600", "b19200", "b", "v200", "v", "c500", "l30", "n2", "N1", "B5", "R", "X", "s1",
+    "s", "T", "Q", "$", "?0", "&", "p5", "5", "007", "a", "u1", "r", " ", "/", "\r", "\n", "\0", "\x7f", "-",
 ];
 
 /// Codes of `H` and `S`, and what is none.
@@ -129,7 +128,7 @@ impl Older {
     /// All letters, a few of them, or those of long operands; often without
     /// `L`.
     fn some_letters(&mut self) -> Vec<u8> {
-        let plain = if self.random.chance(50) { PLAIN } else { b"APDzZVfmhjJnBMHe" };
+        let plain = if self.random.chance(50) { PLAIN } else { b"APDzZVfmhjJMHe" };
         match self.random.below(4) {
             0 => b"APDzZ".to_vec(),
             1 => (0..3).map(|_| self.random.pick(plain)).collect(),
@@ -345,7 +344,7 @@ impl Older {
         match self.random.below(6) {
             0 => self.random.bits() as u8,
             1..=2 => b'0' + self.random.below(10) as u8,
-            3 => self.random.pick(b"FbvclNsRXT?gGS"),
+            3 => self.random.pick(b"FbvclnNsRXT?gGS"),
             _ => self.random.pick(LETTERS),
         }
     }
@@ -363,7 +362,6 @@ fn range(letter: u8, way: Way) -> (u64, u64) {
         (b'h', _) => (0, 50),
         (b'j', _) => (2, 256),
         (b'J', _) => (0, 3),
-        (b'n', _) => (0, 15),
         (b'M' | b'G', _) => (0, 30_000),
         (b'e', _) => (0, 15),
         _ => (0, 2_147_483_647),

@@ -7,7 +7,7 @@ use crate::packet::checksum;
 use crate::random::Lines;
 
 /// Operations that come one after another.
-pub type Script = Vec<Vec<u8>>;
+type Script = Vec<Vec<u8>>;
 
 /// Counts of loops, about the powers of two and of ten.
 const TIMES: &[u64] = &[
@@ -30,7 +30,7 @@ pub struct Rare<'a> {
 impl Rare<'_> {
     /// One of them.
     pub fn script(&mut self) -> Script {
-        match self.below(692) {
+        match self.below(164) {
             0..=19 => self.deep_loops(),
             20 => self.many_times(),
             21..=23 => self.long_feed(),
@@ -46,41 +46,32 @@ impl Rare<'_> {
             115..=126 => self.refused(),
             127..=142 => self.turning(),
             143..=162 => self.stored_earlier(),
-            163..=292 => self.packed(),
-            293..=322 => self.tables(),
-            323..=377 => self.pairs(),
-            378..=467 => self.jogs(),
-            468..=687 => self.encoders(),
             _ if self.below(3) == 0 => self.longest_body(),
             _ => vec![b"help".to_vec()],
         }
     }
 
-    pub fn below(&mut self, bound: u64) -> u64 {
+    fn below(&mut self, bound: u64) -> u64 {
         self.lines.random.below(bound)
     }
 
-    pub fn pick<T: Copy>(&mut self, from: &[T]) -> T {
+    fn pick<T: Copy>(&mut self, from: &[T]) -> T {
         self.lines.random.pick(from)
     }
 
     /// The operation that feeds a frame with this body.
-    pub fn frame(&self, body: &[u8]) -> Vec<u8> {
+    fn frame(&self, body: &[u8]) -> Vec<u8> {
         with_hex("feed", &[&[b'/', 0x30 + self.number], body, b"\r"].concat())
     }
 
     /// Loops of depth 3 or 4, one after another at times, run to their end.
     fn deep_loops(&mut self) -> Script {
         let depth = 3 + self.lines.random.under(2);
-        let body = format!("rn0z1000{}R", self.nest(depth));
+        let body = format!("z1000{}R", self.nest(depth));
         let stored = self.pick(&["s1ggP1G2G2R", "s1gD1G3R", "s1R", "s1P1gggS01P1z9G1G2G3R"]);
         let word = self.pick(&["run", "timeline"]);
         let run = format!("{word} 15 1").into_bytes();
-        // A full small image would refuse the program, and keep one that may not end.
-        let bodies = [b"?9", stored.as_bytes(), body.as_bytes()];
-        let mut script = bodies.map(|body| self.frame(body)).to_vec();
-        script.extend([run, b"unit".to_vec()]);
-        script
+        vec![self.frame(stored.as_bytes()), self.frame(body.as_bytes()), run, b"unit".to_vec()]
     }
 
     fn nest(&mut self, depth: usize) -> String {
@@ -173,7 +164,7 @@ impl Rare<'_> {
         bytes[4 * slot + 2..][..2].copy_from_slice(&length.to_le_bytes());
         let start = format!("start {}", self.number).into_bytes();
         let jump = self.frame(format!("e{slot}R").as_bytes());
-        let turn = b"turn 15 1 0 0".to_vec();
+        let turn = b"turn 15 1 0".to_vec();
         vec![
             with_hex("image", &bytes),
             start,
@@ -283,7 +274,7 @@ impl Rare<'_> {
     }
 
     /// A body in each framing.
-    pub fn framings(&self, sequence: u8, body: &[u8]) -> [Vec<u8>; 4] {
+    fn framings(&self, sequence: u8, body: &[u8]) -> [Vec<u8>; 4] {
         let address = 0x30 + self.number;
         let mut frame = [&[0x02, address, sequence], body, &[0x03]].concat();
         frame.push(checksum(&frame));
@@ -303,7 +294,7 @@ impl Rare<'_> {
         } else {
             self.pick(&["P90000R", "z9A3000R", "M30000R", "Z3000R", "H01R", "f1Z3000R"])
         };
-        let turn = b"turn 15 1 0 0".to_vec();
+        let turn = b"turn 15 1 0".to_vec();
         let mut script = vec![self.frame(line.as_bytes())];
         script.extend(vec![turn; 1 + self.lines.random.under(3)]);
         for _ in 0..2 + self.below(4) {
@@ -313,11 +304,11 @@ impl Rare<'_> {
             let place = self.lines.random.under(4);
             script.push(self.framings(sequence, &body)[place].clone());
             // Steps, and at times the edge.
-            let after = self.pick(&["unit", "unit", "turn 15 1 1 0", "turn 15 1 0 0", "turn 13 1 1 0", ""]);
+            let after = self.pick(&["unit", "unit", "turn 15 1 1", "turn 15 1 0", "turn 13 1 1", ""]);
             script.extend((!after.is_empty()).then(|| after.into()));
         }
         // The edge, and perhaps another endless move.
-        let turns = ["turn 15 1 0 0", "turn 13 1 0 0", "turn 15 1 0 0", "turn 15 1 0 0", "unit"];
+        let turns = ["turn 15 1 0", "turn 13 1 0", "turn 15 1 0", "turn 15 1 0", "unit"];
         script.extend(turns.iter().map(|&operation| operation.into()));
         script
     }
@@ -329,7 +320,7 @@ impl Rare<'_> {
         let mut bytes = if self.below(2) == 0 { image::empty() } else { self.lines.image() };
         image::store(&mut bytes, slot, &text);
         let first = self.pick(&["Q", "$", "X", "R", "T", "T", "?0"]);
-        let turn = b"turn 15 1 0 0".to_vec();
+        let turn = b"turn 15 1 0".to_vec();
         vec![
             with_hex("image", &bytes),
             format!("start {}", self.number).into_bytes(),
@@ -354,7 +345,7 @@ impl Rare<'_> {
         bytes.resize(length, 0);
         let start = format!("start {}", self.number).into_bytes();
         let (run, turn) =
-            (self.pick(&["run 15 1", "timeline 15 1"]), self.pick(&["turn 15 1 0 0", "turn 16 1 0 0"]));
+            (self.pick(&["run 15 1", "timeline 15 1"]), self.pick(&["turn 15 1 0", "turn 16 1 0"]));
         let next = vec![start, run.into(), turn.into(), self.frame(b"Q"), b"store".to_vec()];
         [vec![with_hex("image", &bytes)], next, vec![b"image empty".to_vec()]].concat()
     }

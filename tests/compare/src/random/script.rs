@@ -4,13 +4,11 @@ use std::collections::VecDeque;
 
 use crate::address::{reach, Reach};
 use crate::bench::{with_hex, Bench, LONGEST_IMAGE};
-use crate::form::{Form, FormMut};
-use crate::image;
-use crate::jog::Jog;
+use crate::image::{self, IMAGE};
 use crate::kinds::{self, Glance};
 use crate::packet::{checksum, PACKET};
 use crate::random::{Bus, Lines, Older, Random, Rare};
-use crate::turn::{Direction, Leg, Wait};
+use crate::turn::{Leg, Wait};
 use crate::unit::Unit;
 
 /// Lines that are none of the operations, or hold a number or a byte that
@@ -62,19 +60,6 @@ const UNREADABLE: &[&str] = &[
     "image 0g",
     "image -0",
     "image Empty",
-    "image Small",
-    "image small ",
-    "move",
-    "move small",
-    "move small ",
-    "move 1024",
-    "move large 4160",
-    "move Big 4160",
-    "move small 1024 0",
-    "move small  1024",
-    "move small x",
-    "move big 4294967296",
-    "move big -",
     "image 2f 31",
     "feed",
     "feed ",
@@ -87,49 +72,18 @@ const UNREADABLE: &[&str] = &[
     "turn",
     "turn 15",
     "turn 15 1",
-    "turn 15 1 0",
+    "turn 15 1 0 0",
+    "turn 256 1 0",
+    "turn 271 1 0",
+    "turn 15 4294967296 0",
+    "turn 15 1 4294967296",
+    "turn a 1 0",
+    "turn 15  1 0",
     "turn 15 1 0 ",
-    "turn 15 1 0 0 0",
-    "turn 256 1 0 0",
-    "turn 271 1 0 0",
-    "turn 15 4294967296 0 0",
-    "turn 15 1 4294967296 0",
-    "turn a 1 0 0",
-    "turn 15  1 0 0",
-    "turn 15 1 0 0 ",
-    "turn -1 0 0 0",
-    "turn 15 1 -1 0",
-    "turn 15 1 0 -",
-    "turn 15 1 0 --1",
-    "turn 15 1 0 +1",
-    "turn 15 1 0 x",
-    "turn 15 1 0 1-",
-    "turn 15 1 0 2147483648",
-    "turn 15 1 0 -2147483649",
-    "turn 15 1 0 4294967295",
-    "turn 15 1 0 4294967296",
-    "turn 15 1 0 -4294967296",
+    "turn -1 0 0",
     "unit 1",
     "unit ",
     "store x",
-    "fill x",
-    "fill 0",
-    "fill ",
-    "other",
-    "other 4",
-    "other 0g",
-    "other Empty",
-    "other small ",
-    "other 2f 31",
-    "differ 1",
-    "differ ",
-    "either",
-    "either ",
-    "either -",
-    "either x",
-    "either 1 2",
-    "either 4294967296",
-    "either 99999999999999999999",
     "store ",
     "line",
     "line 4",
@@ -178,16 +132,6 @@ const UNREADABLE: &[&str] = &[
     "write - R A 1 g",
     "write - R T -",
     "write - R p 5",
-    "write - R a 5",
-    "write - R aX 5",
-    "write - R C 5",
-    "write - R a C 5",
-    "write - R aC -",
-    "write - R aE",
-    "write - R aC50 5",
-    "write - R r",
-    "write - R r 0",
-    "write - R r 5",
     "write - R & -",
     "write - R & 1",
     "write - RR",
@@ -254,8 +198,6 @@ enum Choice {
     Room,
     Start,
     Store,
-    Fill,
-    Pair,
     Buffer,
     Run,
     Rare,
@@ -274,11 +216,9 @@ const BESIDE: &[(u64, Choice)] = &[
     (4, Choice::Room),
     (4, Choice::Start),
     (3, Choice::Store),
-    (3, Choice::Fill),
-    (4, Choice::Pair),
     (3, Choice::Buffer),
     (8, Choice::Run),
-    (23, Choice::Rare),
+    (14, Choice::Rare),
     (13, Choice::Unreadable),
 ];
 
@@ -312,7 +252,6 @@ impl Round {
         let mut operation = if begins && self.left == 0 { self.begin_script() } else { self.next() };
         self.change_form(&mut operation);
         let before = Glance::at(&self.bench);
-        let image = self.bench.image().to_vec();
         let mut answer = Vec::new();
         self.bench.answer(&operation, &mut answer);
         let after = Glance::at(&self.bench);
@@ -321,11 +260,6 @@ impl Round {
         let mut events = kinds::of_fault(&operation, &kind);
         events.extend(kinds::of_speed(&operation, &kind, before));
         events.extend(kinds::of_digits(&operation, &kind, before, &self.bench));
-        events.extend(kinds::of_jog(&operation, &kind, before, after));
-        events.extend(kinds::of_encoder(&operation, &kind, before, after));
-        events.extend(kinds::of_pair(&operation, &self.bench));
-        events.extend(kinds::of_filled(&operation, &image));
-        events.extend(kinds::of_stores(&operation, &kind, &image, before));
         events.extend(kinds::of_event(&operation, &answer, before, after));
         Step { operation, answer, begins, kind, events }
     }
@@ -362,11 +296,11 @@ impl Round {
         self.left = 40 + self.random.under(400);
         self.pending.clear();
         self.number = 1 + self.random.below(16) as u8;
-        self.queue.push_back(b"other empty".to_vec());
         self.queue.push_back(format!("room {PACKET}").into_bytes());
         self.queue.push_back(self.start_number());
         if self.random.chance(60) {
-            let image = self.good_image();
+            let old = self.random.chance(15);
+            let image = if old { self.lines().old_image() } else { self.lines().image() };
             self.queue.push_back(with_hex("image", &image));
             self.queue.push_back(self.start_number());
         }
@@ -374,17 +308,6 @@ impl Round {
             self.long_run();
         }
         b"image empty".to_vec()
-    }
-
-    /// An image that a unit starts with, of either form.
-    fn good_image(&mut self) -> Vec<u8> {
-        let (small, old) = (self.random.chance(25), self.random.chance(15));
-        match (small, old) {
-            (false, false) => self.lines().image().to_vec(),
-            (false, true) => self.lines().old_image().to_vec(),
-            (true, false) => self.lines().small_image().to_vec(),
-            (true, true) => self.lines().old_small_image().to_vec(),
-        }
     }
 
     /// A run of about 256 commands, or of a loop that is run so often.
@@ -399,9 +322,9 @@ impl Round {
         for frame in ["T", &body, "R"] {
             self.queue.push_back(with_hex("feed", format!("/{address}{frame}\r").as_bytes()));
         }
-        self.queue.extend(vec![b"turn 13 1 0 0".to_vec(); times - 2]);
+        self.queue.extend(vec![b"turn 13 1 0".to_vec(); times - 2]);
         for _ in 0..8 {
-            self.queue.extend([b"turn 13 1 0 0".to_vec(), format!("/{address}Q").into_bytes()]);
+            self.queue.extend([b"turn 13 1 0".to_vec(), format!("/{address}Q").into_bytes()]);
         }
     }
 
@@ -434,8 +357,6 @@ impl Round {
             Choice::Room => self.room(),
             Choice::Start => self.start(),
             Choice::Store => b"store".to_vec(),
-            Choice::Fill => b"fill".to_vec(),
-            Choice::Pair => self.pair(),
             Choice::Buffer => b"buffer".to_vec(),
             Choice::Run => self.run(),
             Choice::Rare => self.rare(),
@@ -447,14 +368,9 @@ impl Round {
         let weights: [u64; 4] = match self.bench.unit() {
             None => [15, 25, 10, 50],
             Some(unit) if unit.is_running() => [66, 16, 6, 12],
-            Some(unit) if unit.settings().modes & 5 != 0 => [45, 32, 8, 15],
             Some(_) => [14, 58, 8, 20],
         };
-        let beside = match self.random.weighted(BESIDE) {
-            // A script of what is rare would start one.
-            Choice::Rare if self.bench.unit().is_none() => Choice::Run,
-            beside => beside,
-        };
+        let beside = self.random.weighted(BESIDE);
         let choices = [Choice::Turn, Choice::Frame, Choice::Unit, beside];
         let place =
             self.random.weighted(&[(weights[0], 0), (weights[1], 1), (weights[2], 2), (weights[3], 3)]);
@@ -464,7 +380,7 @@ impl Round {
     fn lines(&mut self) -> Lines<'_> {
         let (here, known) = match self.bench.unit() {
             None => (0, true),
-            Some(unit) => (unit.told_position(), unit.position().known),
+            Some(unit) => (unit.position().number, unit.position().known),
         };
         Lines { random: &mut self.random, here, known }
     }
@@ -474,17 +390,18 @@ impl Round {
         if self.bench.room() < PACKET && self.random.chance(20) {
             return Some(format!("room {}", self.random.pick(&[262, 262, 263, 512])).into_bytes());
         }
-        if Form::of(self.bench.image()).is_none() && self.random.chance(20) {
-            return Some(self.random.pick(&["image empty", "image small"]).into());
+        if self.bench.image().len() != IMAGE && self.random.chance(20) {
+            return Some(b"image empty".to_vec());
         }
         None
     }
 
     fn turn(&mut self) -> Vec<u8> {
-        match self.bench.unit() {
-            None => b"turn 15 1 0 0".to_vec(),
-            Some(unit) => with_inputs(&mut self.random, unit),
-        }
+        let (sample, elapsed, steps) = match self.bench.unit() {
+            None => (15, 1, 0),
+            Some(unit) => inputs(&mut self.random, unit),
+        };
+        format!("turn {sample} {elapsed} {steps}").into_bytes()
     }
 
     /// `run`, or `timeline` where the turns are few. One that would make very
@@ -510,31 +427,17 @@ impl Round {
     /// A script of what is rare, once the unit can take frames.
     fn rare(&mut self) -> Vec<u8> {
         self.queue.push_back(format!("room {PACKET}").into_bytes());
-        if Form::of(self.bench.image()).is_none() {
+        if self.bench.image().len() != IMAGE {
             self.queue.push_back(b"image empty".to_vec());
         }
         if self.random.chance(20) {
             self.queue.push_back(self.start_number());
-        }
-        if self.is_at_a_checksum() {
-            self.queue.push_back(b"feed 0d".to_vec());
         }
         self.queue.push_back(with_hex("feed", &[b'/', 0x30 + self.number, b'T', b'\r']));
         let number = self.number;
         let script = Rare { lines: self.lines(), number }.script();
         self.queue.extend(script);
         self.queue.pop_front().unwrap_or_default()
-    }
-
-    /// Whether the receiver would take the `/` of a frame for a checksum, so that
-    /// the frame is lost.
-    fn is_at_a_checksum(&self) -> bool {
-        let Some(mut unit) = self.bench.unit().cloned() else {
-            return false;
-        };
-        let (mut image, mut answer) = (image::empty(), [0; PACKET]);
-        let query = [b'/', 0x30 + self.number, b'Q', b'\r'];
-        unit.feed(&query, &mut image, &mut answer).is_ok_and(|fed| fed.answered == 0)
     }
 
     /// A frame with what comes before and after it, fed at once or in parts,
@@ -551,7 +454,7 @@ impl Round {
         if self.random.chance(12) {
             return typed(address, &body, &mut self.random);
         }
-        if self.random.chance(9) {
+        if self.random.chance(6) {
             return self.typed_oem(&body);
         }
         let mut bytes = self.before_frame();
@@ -627,7 +530,6 @@ impl Round {
             }
             return self.random_speed();
         }
-        let recovers = self.bench.unit().is_some_and(Unit::is_overloaded) && self.random.chance(40);
         let place = self.random.below(100);
         let mut lines = self.lines();
         match (running, place) {
@@ -639,7 +541,6 @@ impl Round {
             (true, 76..=81) => b"X".to_vec(),
             (true, 82..=87) => b"R".to_vec(),
             (true, 88..=89) => b"?9".to_vec(),
-            (true, 90..=92) => lines.odd(),
             (true, _) => lines.body(),
             (false, 4..=13) => lines.immediate(),
             (false, 14..=19) => b"R".to_vec(),
@@ -647,7 +548,6 @@ impl Round {
             (false, 26..=34) => lines.storing(),
             (false, 35..=42) => lines.line(false),
             (false, 43..=47) => lines.body(),
-            (false, _) if recovers => [b"r", &lines.line(true)[..]].concat(),
             (false, _) => lines.line(true),
         }
     }
@@ -819,67 +719,44 @@ impl Round {
     /// An image: good, damaged, or of another length.
     fn image(&mut self) -> Vec<u8> {
         match self.random.below(20) {
-            0 => self.random.pick(&["image empty", "image small"]).into(),
+            0 => b"image empty".to_vec(),
             1..=2 => {
-                let length =
-                    self.random.pick(&[0, 1, 63, 64, 320, 1023, 1025, 4159, 4161, 4199, LONGEST_IMAGE]);
+                let length = self.random.pick(&[0, 1, 63, 64, 320, 4159, 4161, 4199, LONGEST_IMAGE]);
                 let mut bytes = self.lines().image().to_vec();
                 bytes.resize(length, 0);
                 if self.random.chance(40) {
-                    let next = self.random.pick(&[
-                        "start 1",
-                        "start 0",
-                        "store",
-                        "turn 16 0 0 7",
-                        "feed -",
-                        "oem 31 Q",
-                        "run 15 1",
-                        "timeline 15 1",
-                    ]);
+                    let next = self.random.pick(&["start 1", "start 0", "store", "turn 16 0 0", "feed -"]);
                     self.queue.push_back(next.as_bytes().to_vec());
                 }
                 with_hex("image", &bytes)
             }
-            3..=8 => with_hex("image", &self.good_image()),
+            3..=7 => with_hex("image", &self.lines().image()),
+            8 => with_hex("image", &self.lines().old_image()),
             _ => self.damaged_image(),
         }
     }
 
     /// A damaged image, and mostly what shows the damage.
     fn damaged_image(&mut self) -> Vec<u8> {
-        let mut image = match Form::of(self.bench.image()) {
-            Some(_) if self.random.chance(50) => self.bench.image().to_vec(),
-            _ => self.good_image(),
+        let lent = image::Image::try_from(self.bench.image());
+        let mut lines = self.lines();
+        let mut image = match lent {
+            Ok(lent) if lines.random.chance(50) => lent,
+            _ => lines.image(),
         };
-        let slot = match FormMut::of(&mut image) {
-            Some(FormMut::Big(image)) => self.lines().damage_image(image),
-            Some(FormMut::Small(image)) => self.lines().damage_small(image),
-            None => 0,
-        };
+        let slot = lines.damage_image(&mut image);
         if self.random.chance(60) {
             let address = char::from(0x30 + self.number);
             let body = self.random.pick(&["e", "z5e", "gM0e"]);
             let end = if body.starts_with('g') { "G" } else { "" };
             let frame = format!("/{address}{body}{slot}{end}R\r");
             self.queue.push_back(with_hex("feed", frame.as_bytes()));
-            self.queue.extend([b"turn 15 1 0 0".to_vec(), b"turn 11 1 0 0".to_vec()]);
+            self.queue.extend([b"turn 15 1 0".to_vec(), b"turn 11 1 0".to_vec()]);
         }
         if self.random.chance(50) {
             self.queue.push_back(self.start_number());
         }
         with_hex("image", &image)
-    }
-
-    /// A second image, or what both have.
-    fn pair(&mut self) -> Vec<u8> {
-        match self.random.below(10) {
-            0 => self.random.pick(&["other empty", "other small"]).into(),
-            // What the first image is now, to be compared later.
-            1..=2 => with_hex("other", self.bench.image()),
-            3 => with_hex("other", &self.good_image()),
-            4..=6 => b"differ".to_vec(),
-            _ => format!("either {}", self.random.below(18)).into_bytes(),
-        }
     }
 
     fn room(&mut self) -> Vec<u8> {
@@ -906,10 +783,7 @@ impl Round {
     fn unreadable(&mut self) -> Vec<u8> {
         match self.random.below(50) {
             0 => with_hex("image", &vec![0; LONGEST_IMAGE + 1]),
-            4 => with_hex("other", &vec![0; LONGEST_IMAGE + 1]),
-            1 => format!("turn {} 1 0 0", 256 + self.random.below(1 << 40)).into_bytes(),
-            5 => format!("turn 15 1 0 {}", (1 << 31) + self.random.below(1 << 40)).into_bytes(),
-            6 => format!("turn 15 1 0 -{}", (1 << 31) + 1 + self.random.below(1 << 40)).into_bytes(),
+            1 => format!("turn {} 1 0", 256 + self.random.below(1 << 40)).into_bytes(),
             2 => format!("start {}", 256 + self.random.below(1 << 40)).into_bytes(),
             3 => format!("room {}", 513 + self.random.below(1 << 40)).into_bytes(),
             _ => self.random.pick(UNREADABLE).as_bytes().to_vec(),
@@ -919,73 +793,16 @@ impl Round {
 
 /// Whether the operation has bytes in hex digits.
 fn has_bytes(operation: &[u8]) -> bool {
-    let words = [&b"feed "[..], b"line ", b"text ", b"read ", b"count ", b"image ", b"other "];
-    words.iter().any(|word| operation.starts_with(word))
-        && !operation.ends_with(b"empty")
-        && !operation.ends_with(b"small")
+    let words = [&b"feed "[..], b"line ", b"text ", b"read ", b"count ", b"image "];
+    words.iter().any(|word| operation.starts_with(word)) && !operation.ends_with(b"empty")
 }
 
-/// A turn with a sample, a time, a report and a count for a unit: mostly what a
-/// drive would see.
-pub fn with_inputs(random: &mut Random, unit: &Unit) -> Vec<u8> {
-    let (sample, elapsed) = (sample(random, unit), elapsed(random, unit.wait()));
-    let steps = report(random, unit);
-    let count = count(random, unit, steps);
-    let zeros = if random.below(200) == 0 { "00" } else { "" };
-    let sign = if count < 0 { "-" } else { "" };
-    format!("turn {sample} {elapsed} {steps} {sign}{zeros}{}", count.unsigned_abs()).into_bytes()
-}
-
-/// What the encoder tells with a report: mostly where the record then is, at
-/// times about `aC` off, at times as before, at times anything.
-fn count(random: &mut Random, unit: &Unit, steps: u64) -> i32 {
-    let (encoder, set) = (unit.encoder(), unit.settings());
-    let steps = steps.min(unit.greatest_report().into()) as u32;
-    let record = set.ratio.count_at(unit.reported(steps));
-    // What `z` or a home has added is taken off again.
-    let follows = i64::from(record) - encoder.count() + i64::from(encoder.given());
-    let edge = i64::from(set.allowed) + random.pick(&[-1, 0, 0, 1, 1, 2]);
-    let wild = random.bits() as i32;
-    let stalls = if unit.corrects() { 15 } else { 4 };
-    let count = match random.below(100) {
-        0..=1 => random.pick(&[0, wild, i32::MIN, i32::MAX]).into(),
-        2..=17 => follows - edge,
-        18..=33 => follows + edge,
-        place if place < 34 + stalls => encoder.given().into(),
-        _ => follows,
-    };
-    count.clamp(i32::MIN.into(), i32::MAX.into()) as i32
+/// A sample, a time and a report for a unit: mostly what a drive would see.
+fn inputs(random: &mut Random, unit: &Unit) -> (u64, u64, u64) {
+    (sample(random, unit), elapsed(random, unit.wait()), report(random, unit))
 }
 
 fn sample(random: &mut Random, unit: &Unit) -> u64 {
-    let jogs = !unit.is_running() && unit.settings().modes & 5 != 0;
-    let sample = if jogs { jog_sample(random, unit) } else { run_sample(random, unit) };
-    // Mostly both limits are open.
-    let open = if unit.corrects() { 40 } else { 70 };
-    match (unit.settings().modes & 2, unit.settings().flag_low) {
-        (2, false) if sample < 16 && random.chance(open) => sample | 12,
-        (2, true) if sample < 16 && random.chance(open) => sample & 3,
-        _ => sample,
-    }
-}
-
-/// A sample for an idle unit whose inputs 1 and 2 start jogs.
-fn jog_sample(random: &mut Random, unit: &Unit) -> u64 {
-    let any = random.below(16);
-    let (up, down) = (any & !1 | 2, any & !2 | 1);
-    match (unit.jog(), random.below(100)) {
-        (_, 0..=1) => random.pick(&[16, 17, 31, 128, 255]),
-        (_, 2..=9) => any,
-        (_, 10..=17) => any & !3,
-        (_, 18..=27) => any | 3,
-        (Some(jog), 28..=84) if jog.direction() == Direction::Up => up,
-        (Some(_), 28..=84) => down,
-        (_, 28..=37) => unit.sample().into(),
-        _ => random.pick(&[up, down]),
-    }
-}
-
-fn run_sample(random: &mut Random, unit: &Unit) -> u64 {
     let last = unit.sample();
     let any = random.below(16) as u8;
     let flag = if unit.settings().flag_low { 0 } else { 4 };
@@ -1022,13 +839,11 @@ fn elapsed(random: &mut Random, wait: Wait) -> u64 {
 fn report(random: &mut Random, unit: &Unit) -> u64 {
     let number = u64::from(unit.greatest_report());
     let endless = matches!(unit.wait(), Wait::Move(on) if on.is_endless());
-    let endless = endless || unit.jog().is_some_and(Jog::is_held);
     match random.below(100) {
         0..=2 => number + 1,
         3 => random.below(1 << 32),
         4..=9 => 0,
         10..=14 => number.saturating_sub(1),
-        15..=54 if matches!(unit.wait(), Wait::Try(_)) => random.below(number + 1),
         15..=74 if endless => random.below(number.min(40) + 1),
         15..=34 => random.below(number + 1),
         _ => number,

@@ -25,9 +25,9 @@ fn the_example() {
     check(&[
         ("start 1", "started"),
         ("/1A1000R", "busy 0"),
-        ("turn 15 1 0 0", "act up 1000"),
-        ("turn 15 1 1000 0", "act none"),
-        ("turn 15 1 0 0", "act none"),
+        ("turn 15 1 0", "act up 1000"),
+        ("turn 15 1 1000", "act none"),
+        ("turn 15 1 0", "act none"),
         ("/1?0", "idle 0 1000"),
     ]);
 }
@@ -36,13 +36,13 @@ fn the_example() {
 fn without_a_unit() {
     check(&[
         ("feed 2f31510d", "no unit"),
-        ("turn 15 0 0 0", "no unit"),
+        ("turn 15 0 0", "no unit"),
         ("unit", "no unit"),
         ("/1Q", "no unit"),
         ("start 0", "refused unit-number"),
         ("unit", "no unit"),
         ("feed zz", "? not a hex digit"),
-        ("turn 256 0 0 0", "? a number is too great"),
+        ("turn 256 0 0", "? a number is too great"),
     ]);
 }
 
@@ -53,7 +53,7 @@ fn a_fresh_unit() {
         (
             "unit",
             "unit idle code=0 position=0 known=1 V=305175 L=1000 j=256 o=1500 m=25 h=10 f=0 F=0 J=0 baud=9600 \
-             sample=15 last=- speed=0 n=0 B=0 jog=none aC=1 aE=1000 au=1 count=0 encoder=0 overload=0 text=-",
+             sample=15 last=- speed=0 text=-",
         ),
         ("/2H", "idle 0"),
         ("/2$", "idle 0 H"),
@@ -62,7 +62,7 @@ fn a_fresh_unit() {
         (
             "unit",
             "unit running code=0 position=0 known=1 V=305175 L=1000 j=256 o=1500 m=25 h=10 f=0 F=0 J=0 baud=9600 \
-             sample=15 last=- speed=0 n=0 B=0 jog=none aC=1 aE=1000 au=1 count=0 encoder=0 overload=0 text=48",
+             sample=15 last=- speed=0 text=48",
         ),
         ("/2A5R", "busy 15"),
         ("/2Q\r/2$", "busy 0"),
@@ -77,15 +77,15 @@ fn feeds_and_turns() {
         ("feed 2f31", "fed 2 -"),
         ("feed -", "fed 0 -"),
         ("feed 510D", "fed 2 2f3060030d0a"),
-        ("turn 16 0 1 0", "refused sample"),
-        ("turn 15 0 1 0", "refused steps"),
+        ("turn 16 0 1", "refused sample"),
+        ("turn 15 0 1", "refused steps"),
         ("room 261", "room 261"),
         ("/1Q", "refused buffer"),
         ("image -", "image 0"),
         ("feed -", "refused buffer"),
         ("room 262", "room 262"),
         ("feed -", "refused image-length"),
-        ("turn 16 0 1 0", "refused image-length"),
+        ("turn 16 0 1", "refused image-length"),
         ("store", "store -"),
         ("start 17", "refused unit-number"),
         ("start 1", "refused image-length"),
@@ -102,7 +102,7 @@ fn a_refused_start_leaves_the_unit() {
         ("/1z5R", "busy 0"),
         (&bad, "image 4160"),
         ("start 2", "refused image-bad"),
-        ("turn 15 0 0 0", "act none"),
+        ("turn 15 0 0", "act none"),
         ("/1?0", "busy 0 5"),
     ]);
 }
@@ -208,7 +208,7 @@ ran 8 idle 1";
 #[test]
 fn help() {
     let lines = answers(&["help"]).concat();
-    assert_eq!(lines.lines().count(), 33);
+    assert_eq!(lines.lines().count(), 24);
     assert!(lines.lines().all(|line| line.contains(" : ")));
 }
 

@@ -64,7 +64,6 @@ fn written_plainly() {
     assert_eq!(told(b"newer -"), "newer - slowed=0");
     both("A0P005D2147483647z0Z0000000400", "A0P5D2147483647z0Z400");
     both("V050f1m100h50j0256J3M030000e15", "V50f1m100h50j256J3M30000e15");
-    both("n0n07B0B0000000020", "n0n7B0B20");
     both("gHS14P1G", "gH02S14P1G0");
     both("gA1G007", "gA1G7");
     gives("older", "A5L020P6", "A5L24P6", 1);
@@ -74,7 +73,9 @@ fn written_plainly() {
 #[test]
 fn letters() {
     // What ours alone has, what the older drive alone has, and what is no command of a text.
-    for letter in ["F1", "b9600", "v200", "c200", "l30", "N1", "s1", "R", "X", "T", "Q", "$", "?0"] {
+    for letter in
+        ["F1", "b9600", "v200", "c200", "l30", "n1", "N1", "B5", "s1", "R", "X", "T", "Q", "$", "?0"]
+    {
         refused(letter, "letter 1");
         refused(&format!("A5{letter}"), "letter 3");
     }
@@ -92,22 +93,7 @@ fn operands() {
         refused(text, "operand 1");
         refused(&format!("H{text}H"), "operand 2");
     }
-    for text in [
-        "n",
-        "n16",
-        "n2047",
-        "B",
-        "B2147483648",
-        "A",
-        "A2147483648",
-        "Z4294967296",
-        "M30001",
-        "f2",
-        "e16",
-        "S",
-        "H00",
-        "S05",
-    ] {
+    for text in ["A", "A2147483648", "Z4294967296", "M30001", "f2", "e16", "S", "H00", "S05"] {
         refused(text, "operand 1");
     }
     both("A0000000005", "A5");
@@ -181,8 +167,7 @@ fn commands() {
 
 /// A good text of both sides, without `L`.
 fn good_text(random: &mut Random) -> String {
-    let pool =
-        "A P0 P0000000007 D2147483647 z5 Z00 V50 V010000 n6 B020 f0 f1 m0 m100 h050 j2 j0256 J3 M0 M30000 \
+    let pool = "A P0 P0000000007 D2147483647 z5 Z00 V50 V010000 f0 f1 m0 m100 h050 j2 j0256 J3 M0 M30000 \
                 gG gG0 gHG007 ggP1G2G30000 H H01 H14 S02A1 S13S04e15 e0";
     let pool: Vec<&str> = pool.split(' ').collect();
     (0..random.under(5)).map(|_| random.pick(&pool)).collect()

@@ -8,15 +8,13 @@ use drive_model::unit::{Fed, Unit};
 pub struct Rig {
     pub unit: Unit,
     pub image: Image,
-    /// What the encoder tells in each turn.
-    pub count: i32,
 }
 
 impl Rig {
     /// Fresh unit 1, idle.
     pub fn new() -> Rig {
         let image = image::empty();
-        Rig { unit: Unit::start(1, &image).unwrap(), image, count: 0 }
+        Rig { unit: Unit::start(1, &image).unwrap(), image }
     }
 
     /// Fresh unit 1, idle, with stored programs.
@@ -72,11 +70,11 @@ impl Rig {
     }
 
     pub fn turn(&mut self, sample: u8, elapsed: u32, steps: u32) -> Action {
-        self.unit.turn(&self.image, sample, elapsed, steps, self.count).unwrap()
+        self.unit.turn(&self.image, sample, elapsed, steps).unwrap()
     }
 
     pub fn refused(&mut self, sample: u8, elapsed: u32, steps: u32) -> TurnRefusal {
-        self.unit.turn(&self.image, sample, elapsed, steps, self.count).unwrap_err()
+        self.unit.turn(&self.image, sample, elapsed, steps).unwrap_err()
     }
 
     /// A turn with all inputs high and a report; its action.

@@ -21,7 +21,7 @@ fn idle_turns() {
 fn refused_turns_change_nothing() {
     let mut rig = Rig::running("P5P6");
     assert_eq!(rig.turn(7, 1, 0), Up(5));
-    assert_eq!(rig.unit.turn(&[], 16, 0, 9, 0), Err(TurnRefusal::ImageLength));
+    assert_eq!(rig.unit.turn(&[], 16, 0, 9), Err(TurnRefusal::ImageLength));
     assert_eq!(rig.refused(16, 0, 9), TurnRefusal::Sample);
     assert_eq!(rig.refused(255, 0, 0), TurnRefusal::Sample);
     assert_eq!(rig.refused(15, 0, 6), TurnRefusal::Steps);

@@ -6,10 +6,10 @@ use Rattle.bench.proofs.forms.read_fields.Statement.{statement}
 use Rattle.bench.proofs.forms.read_fields.Tie as tie
 
 abbrev invariant-loop : tie.invariant-loop
-invariant-loop table row line t₀ at₀ name₀ counter₀ t at name counter = counter ≤ 5
+invariant-loop table row line t₀ at₀ name₀ counter₀ t at name counter = counter ≤ 4
 
 abbrev decreases-loop : tie.decreases-loop
-decreases-loop table row line t₀ at₀ name₀ counter₀ t at name counter = 5 - counter
+decreases-loop table row line t₀ at₀ name₀ counter₀ t at name counter = 4 - counter
 
 blank-task-requires : tie.Need-blank-task-requires invariant-loop decreases-loop
 blank-task-requires c κs = search rules

@@ -1,4 +1,4 @@
--- `bench::forms::row_of` is safe and ends: it goes over the rows, which are no more than 64.
+-- `bench::forms::row_of` is safe and ends: it goes over the rows.
 -- Assumes nothing.
 use Prim.Native.Nat.{◌≤◌, ◌-◌}
 use borrow.Author.Rules.{rules}
@@ -6,10 +6,10 @@ use Rattle.bench.proofs.forms.row_of.Statement.{statement}
 use Rattle.bench.proofs.forms.row_of.Tie as tie
 
 abbrev invariant-loop : tie.invariant-loop
-invariant-loop table word at₀ row₀ at row = row ≤ 64
+invariant-loop table word at₀ row₀ at row = row ≤ 24
 
 abbrev decreases-loop : tie.decreases-loop
-decreases-loop table word at₀ row₀ at row = 64 - row
+decreases-loop table word at₀ row₀ at row = 24 - row
 
 loop-holds : tie.Need-loop-init invariant-loop decreases-loop
 loop-holds c = search rules

@@ -1,4 +1,4 @@
--- `drive::apply` meets its contract: each thing to write has its arm, and a store alone may lack room. Assumes nothing.
+-- `drive::apply` meets its contract: each thing to write has its arm. Assumes nothing.
 use mathlib.Core.Path.{refl, ◌∙◌}
 use borrow.Author.Rules.{rules}
 use Rattle.drive.proofs.feeding.apply.Statement.{statement}
@@ -7,22 +7,17 @@ use Rattle.drive.proofs.feeding.apply.Tie as tie
 returns-2 : tie.Need-returns-2
 returns-2 c =
     rw c.before.before.before.before.w.given.1
-    (record { had_room = refl; to_text = c.put-text.ensures ∙ rw c.before.first.ensures; to_image = refl })
+    (record { to_text = c.put-text.ensures ∙ rw c.before.first.ensures; to_image = refl })
 
 returns-3 : tie.Need-returns-3
 returns-3 c =
-    let s = c.before.before.before in
-    rw s.before.before.before.before.w2.given.1
-    (record {
-      had_room = c.had_room.ensures ∙ rw (s.store.ensures.answers, s.before.part.ensures);
-      to_text = refl;
-      to_image = s.store.ensures.leaves ∙ rw s.before.part.ensures;
-    })
+    rw c.before.before.before.before.before.before.w2.given.1
+    (record { to_text = refl; to_image = c.before.before.store.ensures.leaves ∙ rw c.before.before.before.part.ensures })
 
 returns-4 : tie.Need-returns-4
 returns-4 c =
     rw c.before.before.before.before.enum-told2.given.1
-    (record { had_room = refl; to_text = refl; to_image = c.before.before.clear.ensures.leaves })
+    (record { to_text = refl; to_image = c.before.before.clear.ensures.leaves })
 
 pub apply-spec : {M : Type 1} → statement M
 apply-spec =
@@ -35,10 +30,9 @@ apply-spec =
     (λ c. search rules)
     (λ c κs. search rules)
     (λ c κs. search rules)
-    (λ c κs. search rules)
     (λ c. search rules)
     (λ c κs. search rules)
-    (λ c. rw c.enum_told.given.1 (record { had_room = refl; to_text = refl; to_image = refl }))
+    (λ c. rw c.enum_told.given.1 (record { to_text = refl; to_image = refl }))
     returns-2
     (λ c. search rules)
     returns-3

@@ -1,5 +1,5 @@
 -- `drive::asks_alone` meets its contract: each arm knows its byte, and the last that it is neither. Assumes nothing.
-use mathlib.Core.Bool.{and_false}
+use mathlib.Core.Bool.{and-false}
 use borrow.Author.Tests.{ne_eqb}
 use Rattle.parts.specs.Parts.{same}
 use Rattle.drive.specs.Repeats.{is_query}
@@ -13,4 +13,4 @@ asks-alone-spec =
     (tie.spec
     (λ c. rw c.match.keys1)
     (λ c. rw c.match.keys2)
-    (λ c. simp (ne_eqb _ _ c.match.rest.1, ne_eqb _ _ c.match.rest.0.1, and_false)))
+    (λ c. simp (ne_eqb _ _ c.match.rest.1, ne_eqb _ _ c.match.rest.0.1, and-false)))

@@ -1,5 +1,5 @@
 -- `drive::asks_of` meets its contract: each return knows its bytes, or that they are none of the queries. Assumes nothing.
-use mathlib.Core.Bool.{and_false}
+use mathlib.Core.Bool.{and-false}
 use borrow.Author.Tests.{ne_eqb}
 use Rattle.parts.specs.Parts.{same}
 use Rattle.drive.specs.Repeats.{is_query}
@@ -11,7 +11,7 @@ unfolding is_query same
 asks-of-spec =
     tie.close
     (tie.spec
-    (λ c. simp (ne_eqb _ _ c.if1.true, and_false))
+    (λ c. simp (ne_eqb _ _ c.if1.true, and-false))
     (λ c. rw (c.before.if1.false, c.match.keys1))
     (λ c. rw (c.before.if1.false, c.match.keys2))
     (λ c. rw (c.before.if1.false, c.match.keys3))

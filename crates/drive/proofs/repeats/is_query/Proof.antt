@@ -2,7 +2,8 @@
 use Prim.Native.Nat.{ℕ}
 use mathlib.Core.Path.{◌≡◌, sym, ap, refl, ◌∙◌}
 use mathlib.Core.List.{List, [], ◌∷◌}
-use mathlib.Core.Bool.{false, and_false}
+use mathlib.Core.Bool.{false, and-false}
+use native.Mathlib.Omega.{arith}
 use borrow.Author.Rules.{rules}
 use lib.ListN.{length}
 use Rattle.parts.specs.Parts.{same}
@@ -16,7 +17,7 @@ unfolding is_query same
 no-query [] p q = refl
 no-query (x ∷ []) p q = absurd (p refl)
 no-query (x ∷ (y ∷ [])) p q = absurd (q refl)
-no-query (x ∷ (y ∷ (z ∷ zs))) p q = simp and_false
+no-query (x ∷ (y ∷ (z ∷ zs))) p q = simp and-false
 
 pub is-query-spec : {M : Type 1} → statement M
 is-query-spec =

@@ -31,6 +31,4 @@ both-have-spec =
     (λ c. rw c.match.keys17)
     (λ c. rw c.match.keys18)
     (λ c. rw c.match.keys19)
-    (λ c. rw c.match.keys20)
-    (λ c. rw c.match.keys21)
-    (λ c. lacks-letter c.before.args.letter (none_of (older_letters older_table) (101 ∷ 83 ∷ 72 ∷ 71 ∷ 103 ∷ 77 ∷ 66 ∷ 110 ∷ 74 ∷ 111 ∷ 106 ∷ 104 ∷ 109 ∷ 102 ∷ 76 ∷ 86 ∷ 90 ∷ 122 ∷ 68 ∷ 80 ∷ 65 ∷ []) _ tt c.match.rest)))
+    (λ c. lacks-letter c.before.args.letter (none_of (older_letters older_table) (101 ∷ 83 ∷ 72 ∷ 71 ∷ 103 ∷ 77 ∷ 74 ∷ 111 ∷ 106 ∷ 104 ∷ 109 ∷ 102 ∷ 76 ∷ 86 ∷ 90 ∷ 122 ∷ 68 ∷ 80 ∷ 65 ∷ []) _ tt c.match.rest)))

@@ -3,16 +3,16 @@ use mathlib.Core.Path.{sym, ◌∙◌}
 use borrow.Author.Rules.{rules}
 use borrow.Author.Tests.{not-true, not-false, le-ltb, lt-ltb}
 use Rattle.commands.proofs.SpelledLaws.{spells_as}
-use Rattle.older.specs.Items.{item_stands}
+use Rattle.older.specs.Items.{stands_at}
 use Rattle.older.proofs.finding.stands_at.Statement.{statement}
 use Rattle.older.proofs.finding.stands_at.Tie as tie
 
 returns-2 : tie.Need-returns-2
-unfolding item_stands
+unfolding stands_at
 returns-2 c = simp (not-true c.before.both_have_lem.result c.if2.true, ← c.before.both_have_lem.ensures, lt-ltb _ _ c.before.before.before.if1.false)
 
 returns-3 : tie.Need-returns-3
-unfolding item_stands
+unfolding stands_at
 returns-3 c =
     let read = c.before.before in
     simp (
@@ -25,7 +25,7 @@ returns-3 c =
     )
 
 returns-4 : tie.Need-returns-4
-unfolding item_stands
+unfolding stands_at
 returns-4 c =
     let read = c.before.before in
     simp (
@@ -39,7 +39,7 @@ returns-4 c =
     )
 
 returns-5 : tie.Need-returns-5
-unfolding item_stands
+unfolding stands_at
 returns-5 c =
     simp (
       c.enum-told2.given.1,
@@ -50,7 +50,7 @@ returns-5 c =
     )
 
 pub stands-at-spec : {M : Type 1} → statement M
-unfolding item_stands
+unfolding stands_at
 stands-at-spec =
     tie.close
     (tie.spec

@@ -6,7 +6,7 @@ use native.Mathlib.Omega.{arith}
 use borrow.Author.Rules.{rules}
 use lib.ListN.{length}
 use Rattle.older.proofs.ItemLaws.{good-goes, letter-goes, unfit-goes}
-use Rattle.older.proofs.PassLaws.{Passing, passing, pass-good, pass-letter, pass-operand, pass-end}
+use Rattle.older.proofs.PassLaws.{Passing, passing, pass_good, pass_letter, pass_operand, pass_end}
 use Rattle.older.proofs.passing.judge.Statement.{statement}
 use Rattle.older.proofs.passing.judge.Tie as tie
 
@@ -25,7 +25,7 @@ loop-less c = let h = good-goes _ _ _ (sym c.before.before.before.before.stands_
 loop-again : tie.Need-loop-preserved invariant-loop decreases-loop
 loop-again c =
     rw c.see-good.ensures
-    (pass-good c.before.before.before.before.before.loop.invariant (sym c.before.before.before.before.stands_at.ensures ∙ c.before.before.c.given.1))
+    (pass_good c.before.before.before.before.before.loop.invariant (sym c.before.before.before.before.stands_at.ensures ∙ c.before.before.c.given.1))
 
 add-see-letter : tie.Need-overflow-add-see-letter invariant-loop decreases-loop
 add-see-letter c = let h = letter-goes _ _ _ (sym c.before.before.stands_at.ensures ∙ c.enum_told.given.1) in omega arith
@@ -39,7 +39,7 @@ loop-less-2 c = let h = letter-goes _ _ _ (sym c.before.before.before.stands_at.
 loop-again-2 : tie.Need-loop-preserved-2 invariant-loop decreases-loop
 loop-again-2 c =
     rw c.see-letter.ensures
-    (pass-letter c.before.before.before.before.loop.invariant (sym c.before.before.before.stands_at.ensures ∙ c.before.enum_told.given.1))
+    (pass_letter c.before.before.before.before.loop.invariant (sym c.before.before.before.stands_at.ensures ∙ c.before.enum_told.given.1))
 
 add-see-operand : tie.Need-overflow-add-see-operand invariant-loop decreases-loop
 add-see-operand c = let h = unfit-goes _ _ _ (sym c.before.before.before.stands_at.ensures ∙ c.before.c2.given.1) in omega arith
@@ -50,12 +50,12 @@ loop-less-3 c = let h = unfit-goes _ _ _ (sym c.before.before.before.before.stan
 loop-again-3 : tie.Need-loop-preserved-3 invariant-loop decreases-loop
 loop-again-3 c =
     rw c.see-operand.ensures
-    (pass-operand c.before.before.before.before.before.loop.invariant (sym c.before.before.before.before.stands_at.ensures ∙ c.before.before.c2.given.1))
+    (pass_operand c.before.before.before.before.before.loop.invariant (sym c.before.before.before.before.stands_at.ensures ∙ c.before.before.c2.given.1))
 
 returns : tie.Need-returns invariant-loop decreases-loop
 returns c =
     c.tell.ensures
-    ∙ pass-end c.before.before.before.before.loop.invariant (sym c.before.before.before.stands_at.ensures ∙ c.before.enum-told2.given.1)
+    ∙ pass_end c.before.before.before.before.loop.invariant (sym c.before.before.before.stands_at.ensures ∙ c.before.enum-told2.given.1)
 
 pub judge-spec : {M : Type 1} → statement M
 judge-spec =

@@ -1,3 +1,0 @@
-pub mod Big
-pub mod Calls
-pub mod Claims

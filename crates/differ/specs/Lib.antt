@@ -1,4 +1,0 @@
-pub mod Differ
-pub mod Calls
-pub mod Listing
-pub mod Claims

@@ -1,4 +1,0 @@
-pub mod DividingLaws
-pub mod SignedLaws
-pub mod EncoderLaws
-pub mod RatioLaws

@@ -1,3 +1,0 @@
-pub mod Ratio
-pub mod Encoder
-pub mod Claims

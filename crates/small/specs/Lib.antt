@@ -1,4 +1,0 @@
-pub mod Small
-pub mod Calls
-pub mod Splicing
-pub mod Claims

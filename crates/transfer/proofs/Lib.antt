@@ -1,4 +1,0 @@
-pub mod UpToLaws
-pub mod BigOfLaws
-pub mod FillLaws
-pub mod MoveLaws
