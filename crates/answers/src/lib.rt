@@ -1,4 +1,6 @@
 // Answers: the status, a packet written from a status and data, a packet read, in both framings.
+#![tactic(auto)]
+
 ghost use Rattle.std.specs.Prelude.{◌≡◌, ltb};
 ghost use Rattle.answers.specs.Packet.{most_data, status_of, number_data, packet_around, PacketAs, PacketIs};
 ghost use Rattle.answers.specs.Reading.{framed, good_status, good_data, inside_by, told_of, read_of};
@@ -9,21 +11,21 @@ ghost use Rattle.answers.specs.AnswerClaims.{AnswerClaims};
 use digits::Written;
 
 // A number as data: its digits, zeros behind them, and how many digits.
-#[derive(Drop)]
+#[derive(Clone, Copy)]
 pub struct Data {
     pub bytes: [u8; MOST_DIGITS],
     pub length: usize,
 }
 
 // Whether a slice is exactly one packet.
-#[derive(Drop)]
+#[derive(Clone, Copy)]
 pub enum Found {
     OnePacket,
     NotOnePacket,
 }
 
 // A packet that was read: status, its idle bit and its code, and where the data lies. All 0 where the slice is not exactly one packet.
-#[derive(Drop)]
+#[derive(Clone, Copy)]
 pub struct Packet {
     pub found: Found,
     pub status: u8,
@@ -34,7 +36,7 @@ pub struct Packet {
 }
 
 // What stands within the frame of a packet.
-#[derive(Drop)]
+#[derive(Clone, Copy)]
 enum Inside {
     // The status, and how many bytes of data.
     StatusData(u8, usize),

@@ -7,7 +7,7 @@ use digits::Operand;
 pub(crate) const LF: u8 = 10;
 
 // What a field reads as, and what is wrong with it.
-#[derive(Drop)]
+#[derive(Clone, Copy)]
 pub(crate) struct Reading {
     pub(crate) fault: usize,
     pub(crate) value: u64,

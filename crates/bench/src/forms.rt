@@ -95,7 +95,7 @@ const KIND_END: usize = 6;
 const BYTE_MOST: u64 = 255;
 
 // What a line asks for.
-#[derive(Drop)]
+#[derive(Clone, Copy)]
 pub(crate) struct Task {
     // The row of its form; that of a reason where it is none of the operations.
     pub(crate) row: usize,

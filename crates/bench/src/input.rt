@@ -14,7 +14,7 @@ const LINE_BYTES: usize = 65536;
 pub(crate) const LINE_ROOM: usize = LINE_BYTES + 1;
 
 // How far the input is read.
-#[derive(Drop)]
+#[derive(Clone, Copy)]
 pub(crate) struct Reader {
     // Of the bytes that the last read gave: how many, and where those begin that are in no line yet; past all where none are left.
     got: usize,

@@ -1,4 +1,6 @@
 // The tester's program: operations on standard input, one a line, and a line of answer for each.
+#![tactic(auto)]
+
 mod calls;
 mod course;
 mod fields;

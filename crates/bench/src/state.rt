@@ -1,7 +1,7 @@
 // What the bench holds beside the bytes that it lends: those of image and answer buffer, and the two texts of the unit.
 use drive::Record;
 
-#[derive(Drop)]
+#[derive(Clone, Copy)]
 pub(crate) struct Bench {
     // Its number is 0 until a start is not refused.
     pub(crate) unit: Record,

@@ -1,4 +1,6 @@
 // The commands of a line: one read at a place, one written.
+#![tactic(auto)]
+
 mod fitting;
 mod table;
 mod writing;
@@ -13,7 +15,7 @@ ghost use Rattle.commands.specs.Claims.{CommandClaims};
 use digits::Written;
 
 // A command with its operand as typed.
-#[derive(Drop)]
+#[derive(Clone, Copy)]
 pub enum Command {
     LoopBegin,
     LoopEnd(u32),
@@ -23,7 +25,7 @@ pub enum Command {
 }
 
 // A command that steers no loop and no text.
-#[derive(Drop)]
+#[derive(Clone, Copy)]
 pub enum Act {
     MoveTo(u32),
     MoveUp(u32),
@@ -36,7 +38,7 @@ pub enum Act {
 }
 
 // What a command sets: a variant each, its letter and range in `table.rt`.
-#[derive(Drop)]
+#[derive(Clone, Copy)]
 pub enum Setting {
     TopSpeed,
     Acceleration,
@@ -51,13 +53,13 @@ pub enum Setting {
 }
 
 // Why a line is refused, 2 or 3, and where: counting bytes from 1, 0 for no place.
-#[derive(Drop)]
+#[derive(Clone, Copy)]
 pub struct Fault {
     pub code: u8,
     pub place: usize,
 }
 
-#[derive(Drop)]
+#[derive(Clone, Copy)]
 pub enum Read {
     // A command, and the place past it.
     At(Command, usize),
@@ -67,14 +69,14 @@ pub enum Read {
 }
 
 // The command of a letter, where it has one.
-#[derive(Drop)]
+#[derive(Clone, Copy)]
 pub enum Named {
     Is(Command),
     NoCommand,
 }
 
 // Which numbers an operand may be.
-#[derive(Drop)]
+#[derive(Clone, Copy)]
 pub enum Range {
     // From the first to the second.
     From(u32, u32),
@@ -87,7 +89,7 @@ pub enum Range {
 }
 
 // What a letter asks of its operand.
-#[derive(Drop)]
+#[derive(Clone, Copy)]
 pub enum Asks {
     // It is no command's letter.
     Unknown,
@@ -99,21 +101,21 @@ pub enum Asks {
 }
 
 // A letter's row: what it asks, and its command before the number is known.
-#[derive(Drop)]
+#[derive(Clone, Copy)]
 struct Lettered {
     asks: Asks,
     command: Command,
 }
 
 // The exponent of a power of two from 1 to 256.
-#[derive(Drop)]
+#[derive(Clone, Copy)]
 pub enum Exponent {
     Power(u32),
     NoPower,
 }
 
 // How a command is written: its letter, and its operand.
-#[derive(Drop)]
+#[derive(Clone, Copy)]
 pub enum Spelling {
     Alone(u8),
     WithNumber(u8, u32),
@@ -122,7 +124,7 @@ pub enum Spelling {
 }
 
 // What a letter's operand gives, so that the command is made in one place.
-#[derive(Drop)]
+#[derive(Clone, Copy)]
 enum Fitted {
     // The number, and the place past it.
     Fits(u32, usize),

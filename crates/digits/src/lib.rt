@@ -1,4 +1,6 @@
 // Operands: a run of digits read as a number of any size, and a number written in decimal.
+#![tactic(auto)]
+
 mod taking;
 
 ghost use Rattle.std.specs.Prelude.{◌≡◌, [], ◌∷◌, cond, ◌+◌, ◌-◌, ◌*◌, ◌<◌, ◌≤◌, min, drop, ltb, leb};
@@ -6,7 +8,7 @@ ghost use Rattle.digits.specs.Operand.{digit_run, widest, operand_at, operand_up
 ghost use Rattle.digits.specs.Decimal.{decimal, WrittenIs};
 ghost use Rattle.digits.specs.ReadBack.{DigitClaims};
 
-#[derive(Drop)]
+#[derive(Clone, Copy)]
 pub enum Operand {
     // No digit stands there.
     Missing,
@@ -16,7 +18,7 @@ pub enum Operand {
     Above(usize),
 }
 
-#[derive(Drop)]
+#[derive(Clone, Copy)]
 pub enum Written {
     // The place past what was written.
     Past(usize),

@@ -3,7 +3,7 @@ ghost use Rattle.std.specs.Prelude.{◌≡◌, cond, ◌+◌, ◌-◌, ◌*◌, 
 ghost use Rattle.digits.specs.Decimal.{decimal};
 
 // What is left of a number, and the digit that was taken from it.
-#[derive(Drop)]
+#[derive(Clone, Copy)]
 struct Taken {
     rest: u32,
     digit: u8,

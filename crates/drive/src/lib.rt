@@ -1,5 +1,7 @@
 // One drive's side of the DT protocol: the calls that firmware makes. A unit is its record, handed over by value, and two texts
 // that the caller lends: the body being received, and the current text.
+#![tactic(auto)]
+
 mod answering;
 mod feeding;
 mod repeats;
@@ -16,14 +18,14 @@ use image::Checked;
 use turns::{Action, Core, Enter};
 
 // The number of the last OEM frame that was not refused; at start there is none.
-#[derive(Drop)]
+#[derive(Clone, Copy)]
 pub enum Last {
     Never,
     Number(u8),
 }
 
 // A unit without its texts.
-#[derive(Drop)]
+#[derive(Clone, Copy)]
 pub struct Record {
     pub core: Core,
     pub progress: Progress,
@@ -32,7 +34,7 @@ pub struct Record {
 }
 
 // How a start is answered.
-#[derive(Drop)]
+#[derive(Clone, Copy)]
 pub enum StartAnswer {
     Started,
     UnitNumber,
@@ -40,21 +42,21 @@ pub enum StartAnswer {
     ImageBad,
 }
 
-#[derive(Drop)]
+#[derive(Clone, Copy)]
 pub struct Started {
     pub unit: Record,
     pub answer: StartAnswer,
 }
 
 // How a feed call is answered.
-#[derive(Drop)]
+#[derive(Clone, Copy)]
 pub enum FeedAnswer {
     Taken,
     BufferShort,
     ImageLength,
 }
 
-#[derive(Drop)]
+#[derive(Clone, Copy)]
 pub struct Fed {
     pub unit: Record,
     pub consumed: usize,
@@ -64,7 +66,7 @@ pub struct Fed {
 }
 
 // How a turn is answered.
-#[derive(Drop)]
+#[derive(Clone, Copy)]
 pub enum TurnAnswer {
     Taken,
     ImageLength,
@@ -72,7 +74,7 @@ pub enum TurnAnswer {
     Steps,
 }
 
-#[derive(Drop)]
+#[derive(Clone, Copy)]
 pub struct Turned {
     pub unit: Record,
     pub action: Action,
@@ -80,7 +82,7 @@ pub struct Turned {
 }
 
 // A turn without the number, the receiver and the text.
-#[derive(Drop)]
+#[derive(Clone, Copy)]
 struct TurnedCore {
     core: Core,
     enter: Enter,

@@ -1,4 +1,6 @@
 // The C port: the line check, the image check and the ramp figures, through plain numbers and byte slices.
+#![tactic(auto)]
+
 ghost use Rattle.std.specs.Prelude.{◌≡◌};
 ghost use Rattle.lines.specs.Bodies.{line_fault, line_code_lem};
 ghost use Rattle.firmware.specs.Port.{text_number, image_number, figures, ramp_number};

@@ -1,4 +1,6 @@
 // The C port of the count of commands: an object of its own in the archive, which is linked where the count is asked for.
+#![tactic(auto)]
+
 ghost use Rattle.std.specs.Prelude.{◌≡◌};
 ghost use Rattle.firmware_count.specs.Port.{counted_number};
 

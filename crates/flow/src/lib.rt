@@ -1,4 +1,6 @@
 // The place in the current text and the open loops.
+#![tactic(auto)]
+
 ghost use Rattle.std.specs.Prelude.{◌≡◌, ◌<◌, get_or, set};
 ghost use Rattle.flow.specs.Flow.{begun, gone, closed, loop_begun, loop_ended};
 
@@ -6,7 +8,7 @@ ghost use Rattle.flow.specs.Flow.{begun, gone, closed, loop_begun, loop_ended};
 const MOST_OPEN: usize = 4;
 
 // Where a run stands in its text: the text's length, the next place, and for each open loop its start and how often its body has run.
-#[derive(Drop)]
+#[derive(Clone, Copy)]
 pub struct Flow {
     pub length: usize,
     pub at: usize,
@@ -16,7 +18,7 @@ pub struct Flow {
 }
 
 // Where a run goes on, or that it has gone astray.
-#[derive(Drop)]
+#[derive(Clone, Copy)]
 pub struct Flowed {
     pub flow: Flow,
     pub astray: bool,

@@ -1,4 +1,6 @@
 // How many commands a run of a text takes when nothing stops it. 02, E14.
+#![tactic(auto)]
+
 mod counting;
 
 ghost use Rattle.std.specs.Prelude.{◌≡◌};
@@ -10,7 +12,7 @@ use commands::Fault;
 use lines::{Body, Taken};
 
 // How many commands it will take, or why that is not said.
-#[derive(Drop)]
+#[derive(Clone, Copy)]
 pub enum Counted {
     Commands(u64),
     // The line check refuses the body.
@@ -23,7 +25,7 @@ pub enum Counted {
 
 // What a text has shown so far: what each open loop's body has cost, innermost first, and last the text outside; whether a letter was refused, and whether a
 // count went over the bound.
-#[derive(Drop)]
+#[derive(Clone, Copy)]
 struct Tally {
     here: u64,
     first: u64,

@@ -1,4 +1,6 @@
 // The receiver of one unit: the frames for it and its groups, in both framings, out of the bytes of the line. 01, "Frames"; 02, E1.
+#![tactic(auto)]
+
 ghost use Rattle.std.specs.Prelude.{◌≡◌, List, ℕ, ◌<◌, true, not, length};
 ghost use Rattle.frames.specs.Addresses.{called_of};
 ghost use Rattle.frames.specs.Receive.{ours, receiver_at, receiver_of, heard_with, fresh_progress, quiet, finished, begun_plain, stored, closed_by_cr};
@@ -10,7 +12,7 @@ ghost use Rattle.frames.specs.Claims.{FrameClaims};
 // Where the receiver stands: outside a frame; of a plain frame in the address place, or in the body of one for this unit alone
 // or for a group of it; of an OEM frame in the address place, the sequence place, the body or the checksum place, with whom it
 // is for, its sequence byte, and the sum of its bytes so far.
-#[derive(Drop)]
+#[derive(Clone, Copy)]
 pub enum Place {
     Outside,
     Address,
@@ -23,7 +25,7 @@ pub enum Place {
 }
 
 // What has been completed: nothing, a frame for this unit alone, or one for a group of it.
-#[derive(Drop)]
+#[derive(Clone, Copy)]
 pub enum Frame {
     Nothing,
     Alone,
@@ -31,7 +33,7 @@ pub enum Frame {
 }
 
 // How it was framed, an OEM frame with its sequence byte; plain where nothing has been completed.
-#[derive(Drop)]
+#[derive(Clone, Copy)]
 pub enum Framing {
     Plain,
     Oem(u8),
@@ -39,14 +41,14 @@ pub enum Framing {
 
 // How far a receiver is: where it stands, and how many bytes of the body it keeps. The body lies where the caller lends it;
 // what stands behind its bytes is left from earlier frames.
-#[derive(Drop)]
+#[derive(Clone, Copy)]
 pub struct Progress {
     pub length: usize,
     pub place: Place,
 }
 
 // How far a feed call brings it, how many bytes it consumed, and what they completed, in which framing.
-#[derive(Drop)]
+#[derive(Clone, Copy)]
 pub struct Heard {
     pub progress: Progress,
     pub consumed: usize,
@@ -120,7 +122,7 @@ pub fn receive(p: Progress, body: &mut [u8; MOST_KEPT], unit: u8, bytes: &[u8]) 
 }
 
 // The receiver without its body, and what the last byte completed.
-#[derive(Drop)]
+#[derive(Clone, Copy)]
 struct Head {
     place: Place,
     length: usize,
@@ -129,7 +131,7 @@ struct Head {
 }
 
 // Where it is after some bytes, and the place of the next one.
-#[derive(Drop)]
+#[derive(Clone, Copy)]
 struct Advanced {
     head: Head,
     next: usize,

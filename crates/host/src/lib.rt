@@ -1,4 +1,6 @@
 // The host's side: a line written from a list of commands.
+#![tactic(auto)]
+
 ghost use Rattle.std.specs.Prelude.{◌≤◌, take, length};
 ghost use Rattle.lines.specs.Lists.{slot_spelled, commands_text, run_text};
 ghost use Rattle.host.specs.Host.{host_list, LineIs};
@@ -9,7 +11,7 @@ use commands::{Command, Fault};
 use digits::Written;
 use lines::Slot;
 
-#[derive(Drop)]
+#[derive(Clone, Copy)]
 pub enum LineWritten {
     // So many bytes at the front of the buffer.
     Bytes(usize),

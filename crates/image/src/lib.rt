@@ -1,4 +1,6 @@
 // The image of the programs in lent bytes: judged, read, stored to, cleared. Nothing else knows how it is laid out.
+#![tactic(auto)]
+
 ghost use Rattle.std.specs.Prelude.{◌≡◌, ◌+◌, ◌*◌, ◌<◌, ◌≤◌, ◌&&◌, length, eqb};
 ghost use Rattle.image.specs.Image.{image_bytes, right_length, slots, entry_bytes, body_bytes, word_at, slot_start, entry_of, slot_body};
 ghost use Rattle.image.specs.Image.{all_zeros, good_at, slot_by, slot_good, slot_text, with_entry, with_body};
@@ -6,7 +8,7 @@ ghost use Rattle.image.specs.Calls.{checked_by, checked_of, older_of, StoredIs, 
 ghost use Rattle.image.specs.Claims.{ImageClaims};
 
 // Whether an image is good.
-#[derive(Drop)]
+#[derive(Clone, Copy)]
 pub enum Checked {
     Good,
     // It is not 4,160 bytes.
@@ -15,7 +17,7 @@ pub enum Checked {
 }
 
 // What a store came to.
-#[derive(Drop)]
+#[derive(Clone, Copy)]
 pub enum Stored {
     Done,
     // The image is not 4,160 bytes.

@@ -1,5 +1,7 @@
 // Listening on the bus: the line's raw bytes on standard input, and at their end a line for each unit: its number, the frames that
 // came to it alone, its answers, and its last status in two hex digits or `--`. 02, E10.
+#![tactic(auto)]
+
 use libc::{STDERR_FILENO, STDIN_FILENO, STDOUT_FILENO};
 use listening::UnitRecord;
 

@@ -1,5 +1,7 @@
 // What is heard on the line, commands and answers together: a record for each unit of the frames that came to it alone, of its
 // answers, and of its last status. 02, E10.
+#![tactic(auto)]
+
 ghost use Rattle.std.specs.Prelude.{◌≡◌, not, [], ◌∷◌, ◌-◌, ◌≤◌, ◌<◌};
 ghost use Rattle.digits.specs.Operand.{widest};
 ghost use Rattle.digits.specs.Decimal.{decimal};
@@ -14,14 +16,14 @@ ghost use Rattle.listening.specs.Claims.{ListeningClaims};
 use digits::Written;
 
 // The status of a unit's last answer, where there was one.
-#[derive(Drop)]
+#[derive(Clone, Copy)]
 pub enum LastStatus {
     Never,
     Status(u8),
 }
 
 // What was heard of one unit.
-#[derive(Drop)]
+#[derive(Clone, Copy)]
 pub struct UnitRecord {
     pub frames: u32,
     pub answers: u32,
@@ -30,7 +32,7 @@ pub struct UnitRecord {
 
 // What a byte finishes: nothing that counts, a frame to a unit alone, or a whole answer of a unit with its status. Units are 1 to
 // 16; 0 is nobody.
-#[derive(Drop)]
+#[derive(Clone, Copy)]
 pub enum Finish {
     Nothing,
     FrameTo(u8),
@@ -40,7 +42,7 @@ pub enum Finish {
 // Where the listener stands: outside a frame; of a plain one in the address place, in a body with what its CR finishes, or of an
 // answer at the status, in the data with the status and how many bytes came, behind the 03 with the status; of an OEM one the
 // same, with the sum of its bytes so far, and what the checksum finishes where it is known.
-#[derive(Drop)]
+#[derive(Clone, Copy)]
 pub enum Spot {
     Outside,
     Address,
@@ -57,21 +59,21 @@ pub enum Spot {
 }
 
 // Where the listener stands, and the unit of the last frame to a unit alone; 0 where none has come.
-#[derive(Drop)]
+#[derive(Clone, Copy)]
 pub struct Ear {
     pub spot: Spot,
     pub unit: u8,
 }
 
 // The listener: how far it has heard, and the records of the units 1 to 16.
-#[derive(Drop)]
+#[derive(Clone, Copy)]
 pub struct Listener {
     pub ear: Ear,
     pub table: [UnitRecord; UNITS],
 }
 
 // A line of text: its bytes, zeros behind them, and how many bytes.
-#[derive(Drop)]
+#[derive(Clone, Copy)]
 pub struct Line {
     pub bytes: [u8; LINE_BYTES],
     pub length: usize,
@@ -171,7 +173,7 @@ pub fn listening_claims()
 {}
 
 // Where the listener stands behind a byte, and what the byte finishes.
-#[derive(Drop)]
+#[derive(Clone, Copy)]
 struct Hearing {
     ear: Ear,
     finish: Finish,

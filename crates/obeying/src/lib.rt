@@ -1,4 +1,6 @@
 // What a body makes of a unit, and what is to be written: before any packet or image is. 01, "Lines" and "What comes back".
+#![tactic(auto)]
+
 mod speed;
 
 ghost use Rattle.std.specs.Prelude.{◌≡◌, ◌≤◌};
@@ -15,7 +17,7 @@ use lines::{Body, Immediate, Taken};
 use turns::Core;
 
 // The data of an answer.
-#[derive(Drop)]
+#[derive(Clone, Copy)]
 pub enum Tell {
     Nothing,
     Number(u32),
@@ -24,7 +26,7 @@ pub enum Tell {
 }
 
 // What is to be written.
-#[derive(Drop)]
+#[derive(Clone, Copy)]
 pub enum Write {
     Nothing,
     // The first bytes of the body, as the current text.
@@ -36,7 +38,7 @@ pub enum Write {
 }
 
 // What a body makes of a core, what is answered, and what is to be written.
-#[derive(Drop)]
+#[derive(Clone, Copy)]
 pub struct Obeyed {
     pub core: Core,
     pub code: u8,
@@ -45,7 +47,7 @@ pub struct Obeyed {
 }
 
 // What is changed of a core.
-#[derive(Drop)]
+#[derive(Clone, Copy)]
 enum Change {
     Stay,
     // The run ends, and the held code stays.
@@ -61,7 +63,7 @@ enum Change {
 }
 
 // What a body orders: the change of the core, what is answered, and what is to be written.
-#[derive(Drop)]
+#[derive(Clone, Copy)]
 struct Order {
     change: Change,
     // A refusal's own, or `HELD`.

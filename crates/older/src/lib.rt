@@ -1,4 +1,6 @@
 // Texts of the older drive read into ours, and ours written back. 02, E12.
+#![tactic(auto)]
+
 mod finding;
 mod passing;
 mod writing;
@@ -12,7 +14,7 @@ use digits::Written;
 use lines::Scan;
 
 // Which way a text goes.
-#[derive(Drop)]
+#[derive(Clone, Copy)]
 pub enum Way {
     // A text of the older drive into ours.
     Inward,
@@ -21,7 +23,7 @@ pub enum Way {
 }
 
 // Why a text is refused; at one place the first of these.
-#[derive(Drop)]
+#[derive(Clone, Copy)]
 pub enum Why {
     // A letter that one of the drives lacks.
     BadLetter,
@@ -34,13 +36,13 @@ pub enum Why {
 }
 
 // Why, and the place of the first byte, counting from 1; 0 where nothing is refused.
-#[derive(Drop)]
+#[derive(Clone, Copy)]
 pub struct Refusal {
     pub why: Why,
     pub place: usize,
 }
 
-#[derive(Drop)]
+#[derive(Clone, Copy)]
 pub enum Translated {
     // So many bytes at the front of the buffer, and whether a ramp was slowed.
     Text(usize, bool),
@@ -50,14 +52,14 @@ pub enum Translated {
 }
 
 // A command as the other drive has it.
-#[derive(Drop)]
+#[derive(Clone, Copy)]
 enum Carried {
     Fit(Command),
     NoFit,
 }
 
 // What stands at a place of a text.
-#[derive(Drop)]
+#[derive(Clone, Copy)]
 enum Stands {
     // A command as the other drive has it, and the place past it.
     Carries(Command, usize),
@@ -70,7 +72,7 @@ enum Stands {
 
 // What a text has shown so far: its structure, the leftmost letter, operand and command past the most (0 where there is none), how many
 // more commands it may have, and whether a ramp was slowed.
-#[derive(Drop)]
+#[derive(Clone, Copy)]
 struct Sight {
     scan: Scan,
     letter: usize,
@@ -81,7 +83,7 @@ struct Sight {
 }
 
 // How a text is judged.
-#[derive(Drop)]
+#[derive(Clone, Copy)]
 struct Judgement {
     refusal: Refusal,
     slowed: bool,

@@ -1,6 +1,8 @@
 // What feed and turn cost: a stream of bytes, or a turn, again and again, and a digest of all that was answered. Unit 1 on the
 // empty image. The first line of standard input is `feed MOST TIMES`, `asks MOST TIMES` (the same, from a position of ten digits)
 // or `turn STEPS TIMES`; the bytes behind it are the stream.
+#![tactic(auto)]
+
 ghost use Rattle.std.specs.Prelude.{◌<◌, ◌≤◌, length};
 
 use digits::Operand;
@@ -27,7 +29,7 @@ const WORD_BYTES: usize = 5;
 const FAR: u32 = 2147483647;
 
 // What the first line asks for: which call, with what, how often; and where the stream begins.
-#[derive(Drop)]
+#[derive(Clone, Copy)]
 struct Task {
     turns: bool,
     asks: bool,
@@ -37,7 +39,7 @@ struct Task {
 }
 
 // A unit, and the digest of what it has answered.
-#[derive(Drop)]
+#[derive(Clone, Copy)]
 struct Paced {
     unit: Record,
     sum: u32,

@@ -1,4 +1,6 @@
 // Parts of lent bytes: written where there is room, else left as they were.
+#![tactic(auto)]
+
 ghost use Rattle.std.specs.Prelude.{◌≡◌, length, take, replicate};
 ghost use Rattle.parts.specs.Parts.{part, padded_text, PutIs};
 
@@ -33,7 +35,7 @@ pub fn put_at(dst: &mut [u8], at: usize, src: &[u8]) -> bool
     if dst.len() - at < src.len() {
         return false;
     }
-    bytes::copy(src, &mut dst[at..]);
+    dst[at..at + src.len()].copy_from_slice(src);
     true
 }
 

@@ -1,3 +1,5 @@
+#![tactic(auto)]
+
 ghost use Rattle.std.specs.Prelude.{◌≡◌, ◌+◌, ◌*◌, ◌/◌, ◌^◌, min, ◌≤◌, ◌<◌};
 ghost use Rattle.ramp.specs.Ranges.{top_v, top_l, top_n, outside, Within};
 ghost use Rattle.ramp.specs.Peak.{double_unit, greatest};
@@ -5,7 +7,7 @@ ghost use Rattle.ramp.specs.Ramp.{verdict_number, refused_of, peak_figures, figu
 ghost use Rattle.ramp.specs.Claims.{RampClaims};
 
 // Whether the figures stand, or which of V, L and N is outside its range.
-#[derive(Drop)]
+#[derive(Clone, Copy)]
 pub enum Verdict {
     Taken,
     RefusedV,
@@ -14,7 +16,7 @@ pub enum Verdict {
 }
 
 // The ramp record: exact speed and acceleration, and their one rounded quotient.
-#[derive(Drop)]
+#[derive(Clone, Copy)]
 pub struct RampRecord {
     pub speed: f64,
     pub acceleration: f64,
@@ -22,7 +24,7 @@ pub struct RampRecord {
 }
 
 // The ramp figures: the peak and the ramp distance are whole numbers.
-#[derive(Drop)]
+#[derive(Clone, Copy)]
 pub struct Figures {
     pub verdict: Verdict,
     pub peak: u32,

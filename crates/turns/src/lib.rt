@@ -1,4 +1,6 @@
 // One turn of a unit: one wait served, or one command taken.
+#![tactic(auto)]
+
 mod acting;
 mod setting;
 mod taking;
@@ -11,7 +13,7 @@ use motor::{Last, Motor};
 use setting::Settings;
 
 // A unit's record but for its number, its receiver and its text.
-#[derive(Drop)]
+#[derive(Clone, Copy)]
 pub struct Core {
     pub running: bool,
     // A line was loaded and has not been run.
@@ -26,19 +28,19 @@ pub struct Core {
 }
 
 // Whether a slot's text becomes the current one.
-#[derive(Drop)]
+#[derive(Clone, Copy)]
 pub enum Enter {
     Stay,
     Into(u32),
 }
 
-#[derive(Drop)]
+#[derive(Clone, Copy)]
 pub struct Stepped {
     pub core: Core,
     pub enter: Enter,
 }
 
-#[derive(Drop)]
+#[derive(Clone, Copy)]
 pub enum Direction {
     Up,
     Down,
@@ -46,7 +48,7 @@ pub enum Direction {
 }
 
 // What the motor is to do: a direction and the greatest number of microsteps.
-#[derive(Drop)]
+#[derive(Clone, Copy)]
 pub struct Action {
     pub direction: Direction,
     pub number: u32,

@@ -7,7 +7,7 @@ use crate::Core;
 use commands::{Exponent, Setting};
 
 // V L f F m h j o J b; of j the exponent.
-#[derive(Drop)]
+#[derive(Clone, Copy)]
 pub struct Settings {
     pub speed: u32,
     pub acceleration: u32,
