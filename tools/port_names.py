@@ -50,6 +50,15 @@ def declared(file):
         yield from match[2].split()
 
 
+def imported(root):
+    """The names that some file has from a library and not from a crate here: they are the library's."""
+    crates = {folder.name for folder in (root / "crates").iterdir()}
+    for file in [*texts(root), *root.glob("crates/*/src/**/*.rt")]:
+        for match in re.finditer(r"use ([^\s;{]+)\.\{([^}]*)\}", file.read_text()):
+            if match[1].split(".")[:1] != ["Rattle"] or match[1].split(".")[1] not in crates:
+                yield from (item.strip().split(" as ")[0] for item in match[2].split(","))
+
+
 def table(root):
     """The names that turn, and those that stay since they would meet another name."""
     names, definitions = set(), set()
@@ -60,6 +69,7 @@ def table(root):
         names |= found
         if "specs" in file.parts:
             definitions |= found
+    names -= set(imported(root))
     words = {snake(name) for name in definitions if "-" not in name} | LIBRARY
     rows = {name: turned(name, words) for name in names if not MADE.search(name)}
     rows = {old: new for old, new in rows.items() if old != new}

@@ -9,7 +9,7 @@ use native.Mathlib.Numerals.{add-one}
 use lib.ListN.{length, get_or, take, drop, length-take, length-drop, take-append-drop, drop_of_length-le}
 use lib.Seq.{drop-cons, drop-drop, drop-length, get_or-append-add}
 use lib.Dec.{eqb}
-use borrow.Author.Tests.{le-leb, lt-leb, eq_eqb, ne_eqb, eqb-true, eqb-false}
+use borrow.Author.Tests.{le-leb, lt-leb, eq-eqb, ne_eqb, eqb-true, eqb-false}
 use Rattle.parts.specs.Letters.{stx, etx, cr, lf, slash}
 use Rattle.parts.specs.Parts.{part, same}
 use Rattle.parts.proofs.Laws.{same_is, same_self}
@@ -124,11 +124,11 @@ by_bit n a b = sym (rw (ne_eqb (n / 128 % 2) 1 a, ne_eqb (n / 16 % 2) 1 b, and-t
 -- where one of them is set, the status is none
 pub bit_7_set : (n : ℕ) → n / 128 % 2 ≡ 1 → false ≡ good_status n
 unfolding good_status
-bit_7_set n a = rw (eq_eqb (n / 128 % 2) 1 a, and-false)
+bit_7_set n a = rw (eq-eqb (n / 128 % 2) 1 a, and-false)
 
 pub bit_4_set : (n : ℕ) → n / 16 % 2 ≡ 1 → false ≡ good_status n
 unfolding good_status
-bit_4_set n a = rw (eq_eqb (n / 16 % 2) 1 a, and-false, and-false)
+bit_4_set n a = rw (eq-eqb (n / 16 % 2) 1 a, and-false, and-false)
 
 -- ---- the data
 

@@ -8,7 +8,7 @@ use native.Mathlib.Decide.{dec_lt}
 use lib.ListN.{length, take, drop}
 use lib.Seq.{take-append_seam}
 use lib.Dec.{leb, eqb}
-use borrow.Author.Tests.{le-leb, eq_eqb, ne_eqb, eqb-true, eqb-false, not-true}
+use borrow.Author.Tests.{le-leb, eq-eqb, ne_eqb, eqb-true, eqb-false, not-true}
 use Rattle.parts.specs.Parts.{part}
 use Rattle.parts.proofs.Laws.{put_front, put_in_room, take-padded, same_self}
 use Rattle.digits.specs.Operand.{widest}
@@ -32,15 +32,15 @@ pub status_bits : (idle : Bool) (code : ℕ) → StatusBits (status_of idle code
 unfolding status_of
 status_bits true code = record {
   bit_7 = ne_eqb ((64 + 32 + code % 16) / 128 % 2) 1 (λ e. omega arith);
-  bit_6 = eq_eqb ((64 + 32 + code % 16) / 64 % 2) 1 (omega arith);
-  bit_5 = eq_eqb ((64 + 32 + code % 16) / 32 % 2) 1 (omega arith);
+  bit_6 = eq-eqb ((64 + 32 + code % 16) / 64 % 2) 1 (omega arith);
+  bit_5 = eq-eqb ((64 + 32 + code % 16) / 32 % 2) 1 (omega arith);
   bit_4 = ne_eqb ((64 + 32 + code % 16) / 16 % 2) 1 (λ e. omega arith);
   low-four = omega arith;
   a_byte = omega arith;
 }
 status_bits false code = record {
   bit_7 = ne_eqb ((64 + 0 + code % 16) / 128 % 2) 1 (λ e. omega arith);
-  bit_6 = eq_eqb ((64 + 0 + code % 16) / 64 % 2) 1 (omega arith);
+  bit_6 = eq-eqb ((64 + 0 + code % 16) / 64 % 2) 1 (omega arith);
   bit_5 = ne_eqb ((64 + 0 + code % 16) / 32 % 2) 1 (λ e. omega arith);
   bit_4 = ne_eqb ((64 + 0 + code % 16) / 16 % 2) 1 (λ e. omega arith);
   low-four = omega arith;

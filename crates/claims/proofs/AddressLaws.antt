@@ -6,7 +6,7 @@ use mathlib.Core.Bool.{Bool, true, false, ◌||◌, and-eq-true_iff}
 use native.Mathlib.Omega.{arith}
 use lib.ListN.{length, get_or}
 use lib.Dec.{leb, eqb}
-use borrow.Author.Tests.{eq_eqb, ne_eqb, leb-true}
+use borrow.Author.Tests.{eq-eqb, ne_eqb, leb-true}
 use Rattle.parts.specs.Letters.{bytes}
 use Rattle.commands.specs.Table.{one_of}
 use Rattle.commands.proofs.TableLaws.{each}
@@ -61,11 +61,11 @@ third false false = refl
 module _ (u : ℕ) (h : From 1 16 u) where
   own_so : called_of u (0x30 + u) ≡ Frame.Alone
   unfolding called_of
-  own_so = rw (from-unit u h, eq_eqb (0x30 + u) (0x30 + u) refl)
+  own_so = rw (from-unit u h, eq-eqb (0x30 + u) (0x30 + u) refl)
 
   pair_so : called_of u (pair_byte u) ≡ Frame.Group
   unfolding called_of pair_of pairs
-  pair_so = rw (from-unit u h, ne_eqb (pair_byte u) (0x30 + u) (λ q. omega (arith, h.1, pair-high u h.1)), eq_eqb (pair_byte u) (pair_byte u) refl)
+  pair_so = rw (from-unit u h, ne_eqb (pair_byte u) (0x30 + u) (λ q. omega (arith, h.1, pair-high u h.1)), eq-eqb (pair_byte u) (pair_byte u) refl)
 
   four_so : called_of u (four_byte u) ≡ Frame.Group
   unfolding called_of pair_of four_of pairs fours
@@ -73,7 +73,7 @@ module _ (u : ℕ) (h : From 1 16 u) where
       rw (
         from-unit u h,
         ne_eqb (four_byte u) (0x30 + u) (λ q. omega (arith, h.1, four-high u h.1)),
-        eq_eqb (four_byte u) (four_byte u) refl,
+        eq-eqb (four_byte u) (four_byte u) refl,
         second (eqb (four_byte u) (pair_byte u)) (eqb (four_byte u) 0x5F || false),
       )
 

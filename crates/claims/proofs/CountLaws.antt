@@ -4,7 +4,7 @@ use mathlib.Core.Path.{◌≡◌, refl, sym}
 use mathlib.Core.List.{List, [], ◌∷◌}
 use mathlib.Core.Bool.{Bool, true, false, ◌||◌, false≢true}
 use lib.ListN.{length}
-use borrow.Author.Tests.{le-leb, lt-leb, eq_eqb, ne_eqb, eqb-true}
+use borrow.Author.Tests.{le-leb, lt-leb, eq-eqb, ne_eqb, eqb-true}
 use Rattle.commands.specs.declared.Command.{Command}
 use Rattle.commands.specs.declared.Command.TheVariants.{LoopBegin, LoopEnd, Skip, Jump, Plain}
 use Rattle.commands.specs.declared.Act.{Act}
@@ -49,11 +49,11 @@ so_barred (Plain a) e = so_act a e
 some_so : {ds : List Command} → Some ds → any_barred ds ≡ true
 unfolding any_barred
 some_so (first u) = rw (barred_so u)
-some_so {ds = d ∷ ds} (later s) = rw (some_so s) (or_true (barred d))
+some_so {ds = d ∷ ds} (later s) = rw (some_so s) (or-true (barred d))
   where
-    or_true : (b : Bool) → (b || true) ≡ true
-    or_true true = refl
-    or_true false = refl
+    or-true : (b : Bool) → (b || true) ≡ true
+    or-true true = refl
+    or-true false = refl
 
 so_some : (ds : List Command) → any_barred ds ≡ true → Some ds
 unfolding any_barred
@@ -80,7 +80,7 @@ count-row b =
     let long : cost (course_in (body_text b)) ≡ k = sym (costs (course_in (body_text b))) in
     record {
       refused = λ n. rw (ne_eqb (line_code_lem b) 0 n) (refl, refl);
-      letter = λ ds z r s. rw (eq_eqb (line_code_lem b) 0 z, r, some_so s);
-      too_many = λ ds z r n l. rw (eq_eqb (line_code_lem b) 0 z, r, none_so ds n, long, lt-leb k 9223372036854775807 l);
-      counted = λ ds z r n l. rw (eq_eqb (line_code_lem b) 0 z, r, none_so ds n, long, le-leb k 9223372036854775807 l) (refl, refl);
+      letter = λ ds z r s. rw (eq-eqb (line_code_lem b) 0 z, r, some_so s);
+      too_many = λ ds z r n l. rw (eq-eqb (line_code_lem b) 0 z, r, none_so ds n, long, lt-leb k 9223372036854775807 l);
+      counted = λ ds z r n l. rw (eq-eqb (line_code_lem b) 0 z, r, none_so ds n, long, le-leb k 9223372036854775807 l) (refl, refl);
     }

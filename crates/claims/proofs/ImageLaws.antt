@@ -8,7 +8,7 @@ use native.Mathlib.Omega.{arith}
 use lib.ListN.{length, get_or, take, drop, length-take, length-drop}
 use lib.Seq.{get_or-drop, take-take}
 use lib.Dec.{leb, eqb}
-use borrow.Author.Tests.{lt-ltb, le-ltb, le-leb, lt-leb, leb-true, eq_eqb, ne_eqb, eqb-true}
+use borrow.Author.Tests.{lt-ltb, le-ltb, le-leb, lt-leb, leb-true, eq-eqb, ne_eqb, eqb-true}
 use Rattle.parts.specs.Parts.{part}
 use Rattle.parts.proofs.Laws.{get_d_part}
 use Rattle.digits.specs.Operand.{operand_most}
@@ -51,7 +51,7 @@ zeros-each (b ∷ bs) h (suc i) = zeros-each bs ((and-eq-true_iff (eqb b 0) (all
 zeros-all : (s : List ℕ) → ((i : ℕ) → i < length s → get_or s i 0 ≡ 0) → all_zeros s ≡ true
 unfolding all_zeros
 zeros-all [] h = refl
-zeros-all (b ∷ bs) h = rw (eq_eqb b 0 (h 0 (omega arith)), zeros-all bs (λ i l. h (suc i) (omega arith)))
+zeros-all (b ∷ bs) h = rw (eq-eqb b 0 (h 0 (omega arith)), zeros-all bs (λ i l. h (suc i) (omega arith)))
 
 module _ (image : List ℕ) (k : ℕ) (long : length image ≡ 4160) (slot : k < 16) where
   abbrev at : ℕ
@@ -100,7 +100,7 @@ module _ (image : List ℕ) (k : ℕ) (long : length image ≡ 4160) (slot : k <
     unfolding good_at
     so_slot h =
         slot-judged most image k long slot
-        ∙ rw (start_is image k, eq_eqb _ _ h.start, text_is image k h.fits, h.passes, length_is image k, le-leb at 256 h.fits, unused-all h.unused)
+        ∙ rw (start_is image k, eq-eqb _ _ h.start, text_is image k h.fits, h.passes, length_is image k, le-leb at 256 h.fits, unused-all h.unused)
 
 -- ---- the rows
 
@@ -123,8 +123,8 @@ pub image-row : (image : List ℕ) → ImageRow image
 unfolding checked_by slot_text
 image-row image = record {
   wrong-length = λ n. rw (ne_eqb (length image) 4160 n);
-  bad = λ l n. rw (eq_eqb (length image) 4160 l, not_every operand_most image l n);
-  good = λ l h. rw (eq_eqb (length image) 4160 l, so_every operand_most image l h);
+  bad = λ l n. rw (eq-eqb (length image) 4160 l, not_every operand_most image l n);
+  good = λ l h. rw (eq-eqb (length image) 4160 l, so_every operand_most image l h);
   slot = λ k l h. (slot_so image k l h operand_most, so_slot image k l h operand_most);
   no_slot = λ k h. sym (no_slot operand_most image k h);
   text = λ k h. rw h (text_is image k (rw (length_is image k) at (sound image k h).fits));
@@ -134,7 +134,7 @@ pub store-row : (image : List ℕ) (k : ℕ) (text : List ℕ) → StoreRow imag
 unfolding stored_of
 store-row image k text = record {
   wrong-length = λ n. rw (ne_eqb (length image) 4160 n);
-  no_slot = λ l h. rw (eq_eqb (length image) 4160 l, le-ltb k 16 (omega arith));
-  too_long = λ l h g. rw (eq_eqb (length image) 4160 l, lt-ltb k 16 (omega arith), lt-leb (length text) 256 g);
-  stored = λ l h g. rw (eq_eqb (length image) 4160 l, lt-ltb k 16 (omega arith), le-leb (length text) 256 g);
+  no_slot = λ l h. rw (eq-eqb (length image) 4160 l, le-ltb k 16 (omega arith));
+  too_long = λ l h g. rw (eq-eqb (length image) 4160 l, lt-ltb k 16 (omega arith), lt-leb (length text) 256 g);
+  stored = λ l h g. rw (eq-eqb (length image) 4160 l, lt-ltb k 16 (omega arith), le-leb (length text) 256 g);
 }

@@ -8,7 +8,7 @@ use mathlib.Core.Bool.{Bool, true, false, ◌||◌, and-eq-true_iff}
 use native.Mathlib.Omega.{arith}
 use lib.ListN.{length, drop}
 use lib.Dec.{eqb}
-use borrow.Author.Tests.{lt-ltb, le-ltb, le-leb, eq_eqb, ne_eqb}
+use borrow.Author.Tests.{lt-ltb, le-ltb, le-leb, eq-eqb, ne_eqb}
 use Rattle.parts.specs.Parts.{put_in, most_bytes}
 use Rattle.parts.proofs.Laws.{put_front, put_in_room}
 use Rattle.digits.specs.Operand.{operand_most, few_digits}
@@ -73,9 +73,9 @@ unfolding start_of fresh_unit
 start-row number image body text = record {
   unit-number = λ n. rw (from_no_unit number n) (refused-start _ StartAnswer.UnitNumber body text refl);
   image-length = λ n l. rw (from-unit number n, ne_eqb (length image) 4160 l) (refused-start _ StartAnswer.ImageLength body text refl);
-  image-bad = λ n l g. rw (from-unit number n, eq_eqb (length image) 4160 l, not_every most_bytes image l g) (refused-start _ StartAnswer.ImageBad body text refl);
-  started = λ n l g. rw (from-unit number n, eq_eqb (length image) 4160 l, so_every most_bytes image l g) (refl, refl);
-  good-starts = λ n l g. rw (from-unit number n, eq_eqb (length image) 4160 l, so_every most_bytes image l (slots-before image g));
+  image-bad = λ n l g. rw (from-unit number n, eq-eqb (length image) 4160 l, not_every most_bytes image l g) (refused-start _ StartAnswer.ImageBad body text refl);
+  started = λ n l g. rw (from-unit number n, eq-eqb (length image) 4160 l, so_every most_bytes image l g) (refl, refl);
+  good-starts = λ n l g. rw (from-unit number n, eq-eqb (length image) 4160 l, so_every most_bytes image l (slots-before image g));
 }
 
 -- ---- turn
@@ -89,9 +89,9 @@ turn-row u sample ms steps image =
     let last : ℕ = u.core.motor.last.number in
     record {
       image-length = λ l. rw (ne_eqb (length image) 4160 l) (refused-turn _ TurnAnswer.ImageLength u refl);
-      sample-high = λ l s. rw (eq_eqb (length image) 4160 l, lt-ltb 15 sample s) (refused-turn _ TurnAnswer.Sample u refl);
-      steps-many = λ l s m. rw (eq_eqb (length image) 4160 l, le-ltb 15 sample s, lt-ltb last steps m) (refused-turn _ TurnAnswer.Steps u refl);
-      taken = λ l s m. rw (eq_eqb (length image) 4160 l, le-ltb 15 sample s, le-ltb last steps m);
+      sample-high = λ l s. rw (eq-eqb (length image) 4160 l, lt-ltb 15 sample s) (refused-turn _ TurnAnswer.Sample u refl);
+      steps-many = λ l s m. rw (eq-eqb (length image) 4160 l, le-ltb 15 sample s, lt-ltb last steps m) (refused-turn _ TurnAnswer.Steps u refl);
+      taken = λ l s m. rw (eq-eqb (length image) 4160 l, le-ltb 15 sample s, le-ltb last steps m);
     }
 
 -- ---- ramp
@@ -143,7 +143,7 @@ module _ (u : Drive) (bytes image buffer : List ℕ) where
   module _ (l : 262 ≤ length buffer) (w : length image ≡ 4160) where
     group-silent : (received_by u bytes).frame ≡ Frame.Group → ((feed_of u bytes image buffer).answered ≡ 0) × ((feed_of u bytes image buffer).buffer ≡ buffer)
     unfolding feed_of
-    group-silent f = rw (le-ltb (length buffer) 262 l, eq_eqb (length image) 4160 w, f) (refl, put-nothing buffer)
+    group-silent f = rw (le-ltb (length buffer) 262 l, eq-eqb (length image) 4160 w, f) (refl, put-nothing buffer)
 
     module _ (h : OrderRow (body_by u bytes) u.core) where
       frame_refused : (received_by u bytes).frame ≡ Frame.Alone → (frame_code u bytes ≡ 0 → ⊥)
@@ -152,21 +152,21 @@ module _ (u : Drive) (bytes image buffer : List ℕ) where
       frame_refused f n =
           let g = (received_by u bytes).framing in
           let same = refused-last g (frame_code u bytes) u.last (refusal (frame_code u bytes) h.codes n) in
-          rw (le-ltb (length buffer) 262 l, eq_eqb (length image) 4160 w, f, h.refused n, told-place _ _ _, front g _ _ buffer h.three_digits l, same)
+          rw (le-ltb (length buffer) 262 l, eq-eqb (length image) 4160 w, f, h.refused n, told-place _ _ _, front g _ _ buffer h.three_digits l, same)
 
       group-refused : (received_by u bytes).frame ≡ Frame.Group → (frame_code u bytes ≡ 0 → ⊥) → FrameRefused u bytes image buffer []
       unfolding feed_of
       group-refused f n =
           let g = (received_by u bytes).framing in
           let same = refused-last g (frame_code u bytes) u.last (refusal (frame_code u bytes) h.codes n) in
-          rw (le-ltb (length buffer) 262 l, eq_eqb (length image) 4160 w, f, h.refused n, put-nothing buffer, same)
+          rw (le-ltb (length buffer) 262 l, eq-eqb (length image) 4160 w, f, h.refused n, put-nothing buffer, same)
 
   pub feed_row : FeedRow u bytes image buffer
   unfolding feed_of
   feed_row = record {
     buffer-short = λ l. rw (lt-ltb (length buffer) 262 l) (refused-feed _ FeedAnswer.BufferShort u image buffer refl);
     image-length = λ l w. rw (le-ltb (length buffer) 262 l, ne_eqb (length image) 4160 w) (refused-feed _ FeedAnswer.ImageLength u image buffer refl);
-    taken = λ l w. rw (le-ltb (length buffer) 262 l, eq_eqb (length image) 4160 w);
+    taken = λ l w. rw (le-ltb (length buffer) 262 l, eq-eqb (length image) 4160 w);
     group-silent = group-silent;
     frame_refused = λ l w. frame_refused l w (order_row (body_by u bytes) u.core);
     group-refused = λ l w. group-refused l w (order_row (body_by u bytes) u.core);

@@ -7,7 +7,7 @@ use native.Mathlib.Omega.{arith}
 use lib.ListN.{length, replicate, length-append, length-replicate}
 use lib.Seq.{get_or_at}
 use lib.Dec.{leb, eqb}
-use borrow.Author.Tests.{leb-true, le-leb, le-ltb, eq_eqb, eqb-true}
+use borrow.Author.Tests.{leb-true, le-leb, le-ltb, eq-eqb, eqb-true}
 use Rattle.parts.specs.Parts.{same, most_bytes}
 use Rattle.parts.proofs.Laws.{cases}
 use Rattle.parts.specs.Letters.{bytes}
@@ -114,7 +114,7 @@ module _ {c : Core} {zeros n : ℕ} (w : OnTheWay c zeros n) where
   exact =
       let end : operand_end (operand_at b 1) ≡ length b - 1 = ap operand_end operand ∙ omega (arith, long) in
       let at : length (86 ∷ spelling zeros n) ≡ length b - 1 = omega (arith, length-append (spelling zeros n) (82 ∷ [])) in
-      rw (eq_eqb (operand_end (operand_at b 1)) (length b - 1) end) (eq_eqb _ 82 (get_or_at (86 ∷ spelling zeros n) 82 [] 0 (length b - 1) at))
+      rw (eq-eqb (operand_end (operand_at b 1)) (length b - 1) end) (eq-eqb _ 82 (get_or_at (86 ∷ spelling zeros n) 82 [] 0 (length b - 1) at))
 
   taken : (line_fault b).code ≡ 0
   unfolding line_fault

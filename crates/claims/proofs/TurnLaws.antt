@@ -7,7 +7,7 @@ use native.Mathlib.Omega.{arith}
 use native.Mathlib.Nat.{div-one}
 use lib.ListN.{length, set}
 use lib.Dec.{ltb, leb, eqb}
-use borrow.Author.Tests.{le-ltb, lt-ltb, le-leb, lt-leb, eq_eqb, ne_eqb, eqb-true}
+use borrow.Author.Tests.{le-ltb, lt-ltb, le-leb, lt-leb, eq-eqb, ne_eqb, eqb-true}
 use Rattle.parts.specs.Parts.{padded_text, most_bytes}
 use Rattle.parts.proofs.Laws.{cases}
 use Rattle.commands.specs.declared.Command.{Command}
@@ -309,7 +309,7 @@ module _ (u : Drive) (sample ms steps : ℕ) (image : List ℕ) (run : u.core.ru
 
   already_there : Takes t 65 (here t) → known ≡ true → Leads t Wait.Nothing (here t) true
   unfolding command_taken acted command_of find table reported absolute
-  already_there (next, r) k = leads_to Wait.Nothing _ true now (command_of 65 now.position) next r (rw (k, eq_eqb now.position now.position refl)) r.free refl k refl
+  already_there (next, r) k = leads_to Wait.Nothing _ true now (command_of 65 now.position) next r (rw (k, eq-eqb now.position now.position refl)) r.free refl k refl
 
   endless-up : Takes t 80 0 → known ≡ true → Leads t (Wait.Move true true (top - here t)) (here t) true
   unfolding command_taken acted command_of find table reported relative room
@@ -610,7 +610,7 @@ module _ (f : ℕ) (l : Last) where
 
   none_so : l.number ≡ 0 → direction_name (action_answered f l).direction ≡ "no direction"
   unfolding action_answered
-  none_so e = rw (eq_eqb l.number 0 e)
+  none_so e = rw (eq-eqb l.number 0 e)
 
   straight_so : (up : Bool) → 0 < l.number → f ≡ 0 → l.up ≡ up → direction_name (action_answered f l).direction ≡ cond up "up" "down"
   unfolding action_answered

@@ -6,7 +6,7 @@ use mathlib.Core.Bool.{Bool, true, false, ◌&&◌, and-true, and-false, and-eq-
 use native.Mathlib.Omega.{arith}
 use lib.ListN.{length, get_or}
 use lib.Dec.{leb, eqb}
-use borrow.Author.Tests.{eq_eqb, ne_eqb, eqb-true, eqb-false}
+use borrow.Author.Tests.{eq-eqb, ne_eqb, eqb-true, eqb-false}
 use Rattle.parts.specs.Parts.{same}
 use Rattle.parts.proofs.Laws.{cases}
 use Rattle.parts.specs.Letters.{bytes}
@@ -28,7 +28,7 @@ one_on : (a b : ℕ) → eqb (1 + a) b ≡ eqb (1 + suc a) (suc b)
 one_on a b = go (eqb (1 + a) b) refl
   where
     go : (r : Bool) → eqb (1 + a) b ≡ r → eqb (1 + a) b ≡ eqb (1 + suc a) (suc b)
-    go true e = let h = eqb-true (1 + a) b e in e ∙ sym (eq_eqb (1 + suc a) (suc b) (omega (arith, h)))
+    go true e = let h = eqb-true (1 + a) b e in e ∙ sym (eq-eqb (1 + suc a) (suc b) (omega (arith, h)))
     go false e = let h = eqb-false (1 + a) b e in e ∙ sym (ne_eqb (1 + suc a) (suc b) (λ z. h (omega (arith, z))))
 
 -- digits and then `R`, behind a byte x

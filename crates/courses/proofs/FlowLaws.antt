@@ -7,7 +7,7 @@ use native.Mathlib.Numerals.{add-one}
 use native.Mathlib.Decide.{ℕ_discrete}
 use lib.ListN.{length, get_or, set}
 use lib.Seq.{get_or-set_same, get_or-set_other}
-use borrow.Author.Tests.{lt-ltb, le-ltb, eq_eqb, ne_eqb}
+use borrow.Author.Tests.{lt-ltb, le-ltb, eq-eqb, ne_eqb}
 use Rattle.lines.specs.Texts.{most_open, these, bare_from}
 use Rattle.flow.specs.declared.Flow.{Flow}
 use Rattle.flow.specs.Flow as flow
@@ -61,7 +61,7 @@ module _ {t : List ℕ} {whole : Course} {xs : List Step} (f : Flow) (h : FlowOk
   back_taken d m n e b a = go (ℕ_discrete m 0)
     where
       go : Dec (m ≡ 0) → Taken t whole xs (closed d m n f)
-      go (yes z) = rw (eq_eqb m 0 z, e) (a (get_or f.dones d 0) (λ u. absurd (u z)))
+      go (yes z) = rw (eq-eqb m 0 z, e) (a (get_or f.dones d 0) (λ u. absurd (u z)))
       go (no z) =
           let low : d < length f.dones = omega (arith, h.dones4, depth_most h) in
           let l : suc (get_or f.dones d 0) < m = b z in

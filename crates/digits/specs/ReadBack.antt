@@ -1,6 +1,6 @@
 -- What is claimed of operands and decimals together: what is written is read back, and what reads as a number spells it.
 -- 01: "decimal, leading zeros allowed", "without leading zeros", "4294967297 becomes 1" (it does not). Assumes nothing.
-use Rattle.std.specs.Prelude.{ℕ, ◌+◌, ◌^◌, ◌<◌, List, [], ◌∷◌, ◌++◌, ◌≡◌, cond, leb, length, drop, replicate}
+use Rattle.std.specs.Prelude.{ℕ, ◌+◌, ◌^◌, ◌<◌, List, [], ◌++◌, ◌≡◌, cond, leb, length, drop, replicate}
 use Rattle.parts.specs.Letters.{byte, bytes}
 use Rattle.digits.specs.Operand.{digit_run, value_after, number_to, operand_at, operand_most, operand_up_to}
 use Rattle.digits.specs.Decimal.{decimal}

@@ -11,7 +11,7 @@ use mathlib.Core.List.{List, [], ◌∷◌, ◌++◌}
 use lib.ListN.{length, take, drop, set, length-append, length-take, length-drop, take-append-drop}
 use lib.Seq.{sets, sets-eq, take-append_seam}
 use lib.Dec.{eqb, leb, ltb}
-use borrow.Author.Tests.{lt-ltb, le-ltb, leb-true, eq_eqb, ne_eqb}
+use borrow.Author.Tests.{lt-ltb, le-ltb, leb-true, eq-eqb, ne_eqb}
 use Rattle.checksum.specs.Checksum.{xor}
 use Rattle.frames.specs.declared.Place.{Place}
 use Rattle.frames.specs.declared.Frame.{Frame}
@@ -216,7 +216,7 @@ whole-oem_is w r u a q body l o h f =
     oem_is r u a q body c l f
     ∙ ap (λ (y : Receiver). past (length body + 4) (receive_of y u (c ∷ []))) at
     ∙ ap (past (length body + 4))
-    (sum-ends t u w q c c ∙ rw (eq_eqb c c refl) (ap ended_here (finished_is w (Framing.Oem q) (placed Place.Outside t) o)))
+    (sum-ends t u w q c c ∙ rw (eq-eqb c c refl) (ap ended_here (finished_is w (Framing.Oem q) (placed Place.Outside t) o)))
     ∙ ap (λ (k : ℕ). record { receiver = placed Place.Outside t; consumed = k; frame = w; framing = Framing.Oem q })
     (sym (length-oem a q body c))
 

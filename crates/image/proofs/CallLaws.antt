@@ -6,7 +6,7 @@ use mathlib.Core.Bool.{Bool, true, false, ◌&&◌}
 use native.Mathlib.Omega.{arith}
 use lib.Dec.{ltb, leb, eqb}
 use lib.ListN.{length, drop}
-use borrow.Author.Tests.{eq_eqb, ne_eqb, lt-ltb, le-leb, eqb-true, ltb-true, leb-true}
+use borrow.Author.Tests.{eq-eqb, ne_eqb, lt-ltb, le-leb, eqb-true, ltb-true, leb-true}
 use Rattle.parts.proofs.Laws.{cases}
 use Rattle.parts.specs.Parts.{most_bytes}
 use Rattle.digits.specs.Operand.{operand_most, few_digits}
@@ -37,7 +37,7 @@ means_by most image =
 
 when_by : (most : ℕ) (image : List ℕ) → length image ≡ image_bytes → ((k : ℕ) → k < slots → slot_by most image k ≡ true) → checked_by most image ≡ Checked.Good
 unfolding checked_by
-when_by most image long each = rw (eq_eqb (length image) image_bytes long, slots-all most image slots each)
+when_by most image long each = rw (eq-eqb (length image) image_bytes long, slots-all most image slots each)
 
 pub good-means : (image : List ℕ) → checked_of image ≡ Checked.Good → (length image ≡ image_bytes) × EverySlotGood image
 good-means image e = means_by operand_most image e
@@ -99,7 +99,7 @@ pub done-when : (image : List ℕ) (k : ℕ) (text : List ℕ) → length image 
     → stored_of image k text ≡ Stored.Done
 unfolding stored_of
 done-when image k text long slot fits =
-    rw (eq_eqb (length image) image_bytes long, lt-ltb k slots slot, le-leb (length text) body_bytes fits)
+    rw (eq-eqb (length image) image_bytes long, lt-ltb k slots slot, le-leb (length text) body_bytes fits)
 
 -- what Done says
 pub record Fits (image : List ℕ) (k : ℕ) (text : List ℕ) : Type 0 where
@@ -143,7 +143,7 @@ stored_once p q = (p.answers ∙ sym q.answers, p.leaves ∙ sym q.leaves)
 
 pub cleared : (image after : List ℕ) → length image ≡ image_bytes → after ≡ empty_image → ClearedIs image true after
 unfolding after_clear
-cleared image after h e = record { answers = rw (eq_eqb (length image) image_bytes h); leaves = rw (eq_eqb (length image) image_bytes h) e }
+cleared image after h e = record { answers = rw (eq-eqb (length image) image_bytes h); leaves = rw (eq-eqb (length image) image_bytes h) e }
 
 pub not-cleared : (image : List ℕ) → (length image ≡ image_bytes → ⊥) → ClearedIs image false image
 unfolding after_clear

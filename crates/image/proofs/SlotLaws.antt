@@ -10,7 +10,7 @@ use native.Mathlib.Omega.{arith}
 use lib.Dec.{ltb, leb, eqb}
 use lib.ListN.{length, get_or, take, drop, length-take, length-drop, drop_of_length-le}
 use lib.Seq.{drop-cons}
-use borrow.Author.Tests.{eq_eqb, ne_eqb, le-leb, lt-leb, lt-ltb, le-ltb, leb-true, eqb-true, ltb-true}
+use borrow.Author.Tests.{eq-eqb, ne_eqb, le-leb, lt-leb, lt-ltb, le-ltb, leb-true, eqb-true, ltb-true}
 use Rattle.parts.specs.Parts.{part}
 use Rattle.digits.specs.Operand.{operand_most}
 use Rattle.lines.specs.Texts.{text_good_by, text_good}
@@ -61,13 +61,13 @@ module _ (most start : ℕ) (entry body : List ℕ) where
 
   pub bad-length : body_bytes < length_in entry → start_in entry ≡ start → false ≡ good_at most start entry body
   unfolding good_at
-  bad-length h e = rw (eq_eqb (start_in entry) start e, lt-leb (length_in entry) body_bytes h)
+  bad-length h e = rw (eq-eqb (start_in entry) start e, lt-leb (length_in entry) body_bytes h)
 
   -- with start and length right, what is left are the text and the unused bytes
   pub good-rest : start_in entry ≡ start → length_in entry ≤ body_bytes
       → good_at most start entry body ≡ text_good_by most (take (length_in entry) body) && all_zeros (drop (length_in entry) body)
   unfolding good_at
-  good-rest e h = rw (eq_eqb (start_in entry) start e, le-leb (length_in entry) body_bytes h)
+  good-rest e h = rw (eq-eqb (start_in entry) start e, le-leb (length_in entry) body_bytes h)
 
 -- ---- a slot of an image
 
@@ -82,7 +82,7 @@ module _ (most : ℕ) (image : List ℕ) (k : ℕ) where
 
   pub slot-judged : length image ≡ image_bytes → k < slots → slot_by most image k ≡ good_at most (slot_start k) (entry_of image k) (slot_body image k)
   unfolding slot_by
-  slot-judged h l = rw (eq_eqb (length image) image_bytes h, lt-ltb k slots l)
+  slot-judged h l = rw (eq-eqb (length image) image_bytes h, lt-ltb k slots l)
 
 -- what a good slot has
 pub record Sound (image : List ℕ) (k : ℕ) : Type 0 where

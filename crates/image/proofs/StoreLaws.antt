@@ -7,7 +7,7 @@ use mathlib.Core.Logic.{◌⊎◌, inl, inr, ⊎_elim}
 use native.Mathlib.Omega.{arith}
 use native.Mathlib.Decide.{dec_lt, ℕ_discrete}
 use lib.ListN.{length}
-use borrow.Author.Tests.{eq_eqb, eqb-true}
+use borrow.Author.Tests.{eq-eqb, eqb-true}
 use Rattle.parts.specs.Parts.{part, put, padded}
 use Rattle.parts.proofs.Laws.{length-put, part-put, part-put-below, part-put-above, length-padded}
 use Rattle.lines.specs.Texts.{text_good}
@@ -114,7 +114,7 @@ module _ (image : List ℕ) (k : ℕ) (text : List ℕ) where
       each j l (no ne) = (store-elsewhere j l ne).good ∙ (good-means image g).1 j l
       each j l (yes e) =
           let slot : k < slots = omega arith in
-          let h = store-holds (store-done (eq_eqb _ _ (good-means image g).0) slot t) in
+          let h = store-holds (store-done (eq-eqb _ _ (good-means image g).0) slot t) in
           rw e (h.good ∙ t)
 
 pub stores : (image : List ℕ) (k : ℕ) (text : List ℕ) → StoreClaims image k text

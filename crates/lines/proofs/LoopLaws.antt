@@ -6,7 +6,7 @@ use mathlib.Core.Bool.{Bool, true, false, ◌&&◌, and-eq-true_iff}
 use native.Mathlib.Omega.{arith}
 use lib.ListN.{length}
 use lib.Dec.{ltb}
-use borrow.Author.Tests.{ltb-true, eqb-true, eq_eqb, ne_eqb}
+use borrow.Author.Tests.{ltb-true, eqb-true, eq-eqb, ne_eqb}
 use Rattle.commands.specs.declared.Command.{Command}
 use Rattle.commands.specs.declared.Command.TheVariants.{LoopBegin, LoopEnd, Skip, Jump, Plain}
 use Rattle.commands.specs.declared.Read.{Read}
@@ -204,4 +204,4 @@ enclosed_by {t} {at} {st} p = let q = scan_at p at (omega arith) in sym (q.2 ∙
   where
     go : (k : ℕ) → scan_to k t at at st ≡ st
     go zero = refl
-    go (suc k) = rw (eq_eqb at at refl)
+    go (suc k) = rw (eq-eqb at at refl)

@@ -9,7 +9,7 @@ use mathlib.Mathlib.Data.Bool.Basic.{or-eq-false-eq-eq-false-and-eq-false as nei
 use mathlib.Core.List.{List, [], ◌∷◌, ◌++◌}
 use lib.Dec.{eqb, leb, ltb}
 use lib.ListN.{length}
-use borrow.Author.Tests.{leb-true, lt-ltb, eq_eqb, ne_eqb, eqb-false}
+use borrow.Author.Tests.{leb-true, lt-ltb, eq-eqb, ne_eqb, eqb-false}
 use Rattle.parts.specs.Letters.{slash, cr, lf, stx, etx}
 use Rattle.checksum.specs.Checksum.{xor, sum_from}
 use Rattle.frames.specs.Addresses.{is_unit, is_in}
@@ -136,7 +136,7 @@ module _ (status unit : ℕ) (t : List UnitRecord) where
           oem-head (xs ++ (etx ∷ oem_sum status xs ∷ []))
           ∙ data_heard (λ n s. Spot.OemData status n s) oem-step xs 0 (xor (xor stx host_address) status) p i l (etx ∷ oem_sum status xs ∷ [])
           ∙ on (Spot.OemData status (0 + length xs) s) (Spot.OemSum (Finish.AnswerOf unit status) (xor s etx)) etx (oem_sum status xs ∷ []) refl
-          ∙ simp (and-false, eq_eqb (oem_sum status xs) (xor s etx) (sym (sum_made status xs)))
+          ∙ simp (and-false, eq-eqb (oem_sum status xs) (xor s etx) (sym (sum_made status xs)))
 
 -- THE RECORD
 heard-answer : (u status : ℕ) (t : List UnitRecord) → is_unit u ≡ true → length t ≡ 16 → AnswerHeard u status t (noted t (Finish.AnswerOf u status))

@@ -10,7 +10,7 @@ use mathlib.Core.Logic.{inl, inr}
 use mathlib.Core.List.{List, [], ◌∷◌, ◌++◌}
 use lib.Dec.{eqb, ltb}
 use lib.ListN.{length, get_or, get_or-replicate}
-use borrow.Author.Tests.{le-ltb, ltb-true, ltb-false, eq_eqb, ne_eqb, eqb-true, eqb-false}
+use borrow.Author.Tests.{le-ltb, ltb-true, ltb-false, eq-eqb, ne_eqb, eqb-true, eqb-false}
 use Rattle.parts.specs.Letters.{slash, cr, stx, etx}
 use Rattle.parts.proofs.Laws.{cases}
 use Rattle.checksum.specs.Checksum.{xor}
@@ -82,7 +82,7 @@ to_own : (u : ℕ) → is_unit u ≡ true → to_unit u (alone_of (unit_byte u))
 unfolding alone_of
 to_own u is =
     let back : unit_byte u - 48 ≡ u = omega arith in
-    rw (back, is) (eq_eqb u u refl)
+    rw (back, is) (eq-eqb u u refl)
 
 called : (u b : ℕ) → is_unit u ≡ true → to_unit u (alone_of b) ≡ is_alone (called_of u b)
 called u b is =

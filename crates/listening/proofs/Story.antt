@@ -10,7 +10,7 @@ use mathlib.Core.Logic.{◌⊎◌, inl, inr}
 use mathlib.Core.List.{List, [], ◌∷◌, ◌++◌, append_assoc, append-nil}
 use lib.Dec.{eqb}
 use lib.ListN.{length, get_or, length-append}
-use borrow.Author.Tests.{le-leb, eqb-true, eqb-false, eq_eqb}
+use borrow.Author.Tests.{le-leb, eqb-true, eqb-false, eq-eqb}
 use Rattle.parts.specs.Letters.{slash, cr, stx, etx}
 use Rattle.parts.proofs.Laws.{cases}
 use Rattle.checksum.specs.Checksum.{xor, sum_from}
@@ -240,7 +240,7 @@ owned unit xs b _ counts (frame u is) o =
       end = b;
       since = [];
       split = refl;
-      to_unit_lem = λ body. counts u is body ∙ ap (λ (t : Bool). frames_alone u (from body) xs + cond t 1 0) (eq_eqb u u refl);
+      to_unit_lem = λ body. counts u is body ∙ ap (λ (t : Bool). frames_alone u (from body) xs + cond t 1 0) (eq-eqb u u refl);
       none-since = λ v is' body. refl;
     })
 
@@ -279,7 +279,7 @@ unit_left : (xs : List ℕ) (unit : ℕ) (f : Finish) → Told xs unit f → ((v
 unit_left xs unit _ nothing none = refl
 unit_left xs unit _ (answer s ends) none = refl
 unit_left xs unit _ (frame w is) none =
-    let one : ◌≡◌ {A = ℕ} 1 0 = sym (ap (λ (t : Bool). cond {A = ℕ} t 1 0) (eq_eqb w w refl)) ∙ none w is in omega (arith, one)
+    let one : ◌≡◌ {A = ℕ} 1 0 = sym (ap (λ (t : Bool). cond {A = ℕ} t 1 0) (eq-eqb w w refl)) ∙ none w is in omega (arith, one)
 
 unit_made : (xs : List ℕ) (unit u : ℕ) (f : Finish) → Told xs unit f → ◌≡◌ {A = ℕ} (cond (to_unit u f) 1 0) 1 → unit_after f unit ≡ u
 unit_made xs unit u _ nothing one = omega (arith, one)

@@ -8,7 +8,7 @@ use native.Mathlib.Omega.{arith}
 use lib.ListN.{length, get_or, drop, length-append}
 use lib.Seq.{drop-cons, drop-append_seam}
 use lib.Dec.{eqb}
-use borrow.Author.Tests.{lt-ltb, eqb-true, eq_eqb}
+use borrow.Author.Tests.{lt-ltb, eqb-true, eq-eqb}
 use Rattle.parts.proofs.Laws.{cases}
 use Rattle.digits.specs.declared.Operand.{Operand}
 use Rattle.digits.specs.declared.Operand.TheVariants.{Missing, Number, Above}
@@ -55,7 +55,7 @@ pub by_last-byte : (b : List ℕ) {o : Operand} {at : ℕ} → get_or b 0 0 ≡ 
 unfolding speed_line ends_with_r
 by_last-byte b f r e h =
     let z : operand_end (operand_at b 1) ≡ length b - 1 = sym (e ∙ ap operand_end r) ∙ h in
-    rw (eq_eqb (get_or b 0 0) 86 f, eq_eqb (operand_end (operand_at b 1)) (length b - 1) z)
+    rw (eq-eqb (get_or b 0 0) 86 f, eq-eqb (operand_end (operand_at b 1)) (length b - 1) z)
 
 -- what such a line is: `V`, what the operand has, and one `R` behind it
 pub record SpeedBody (b t : List ℕ) : Type 0 where

@@ -3,7 +3,7 @@
 use Prim.Native.Nat.{ℕ, zero, suc, ◌+◌, ◌-◌, ◌≤◌}
 use mathlib.Core.Path.{◌≡◌, refl, sym, ap, ◌∙◌}
 use mathlib.Core.List.{List, [], ◌∷◌, map}
-use mathlib.Core.Bool.{Bool, true, false, cond, ◌||◌, or_true, true≢false}
+use mathlib.Core.Bool.{Bool, true, false, cond, ◌||◌, or-true, true≢false}
 use native.Mathlib.Omega.{arith}
 use lib.ListN.{length, get_or, length-map}
 use lib.Dec.{ltb, eqb}
@@ -161,7 +161,7 @@ any_some (c ∷ cs) e = go (sets_ramp c) refl e (λ h. any_some cs h)
 pub some_any : {cs : List Command} → SomeRamp cs → any_ramp cs ≡ true
 unfolding any_ramp sets_ramp
 some_any (here n cs) = refl
-some_any (later c {cs} s) = rw (some_any s) (or_true (sets_ramp c))
+some_any (later c {cs} s) = rw (some_any s) (or-true (sets_ramp c))
 
 -- without an `L` nothing changes
 pub no_ramp : (w : Way) (cs : List Command) → any_ramp cs ≡ false → map (becomes w) cs ≡ cs

@@ -5,7 +5,7 @@ use mathlib.Core.List.{List}
 use mathlib.Core.Bool.{Bool, true, false, cond}
 use native.Mathlib.Omega.{arith}
 use lib.ListN.{length, take, replicate, length-replicate}
-use borrow.Author.Tests.{eq_eqb, ne_eqb, leb-true, leb-false}
+use borrow.Author.Tests.{eq-eqb, ne_eqb, leb-true, leb-false}
 use Rattle.parts.specs.Parts.{fits_at, PutIs}
 use Rattle.parts.proofs.Laws.{put_in_room, put_in_full}
 use Rattle.digits.specs.declared.Written.TheVariants.{Past, NoRoom}
@@ -42,7 +42,7 @@ module _ (w : Way) (t buffer : List ℕ) (j : Judgement) (e : j ≡ judged_for w
     passed : {b : Bool} → fits_at buffer 0 (length (text_for w t)) ≡ b
         → translated_of w t buffer ≡ cond b (Translated.Text (length (text_for w t)) j.slowed) Translated.NoRoom
     unfolding translated_of
-    passed f = rw (e, eq_eqb (judged_for w (items_from w t 0)).refusal.place 0 (rw e at h), f)
+    passed f = rw (e, eq-eqb (judged_for w (items_from w t 0)).refusal.place 0 (rw e at h), f)
 
     module _ {n : ℕ} {line : List ℕ} (a : AddedIs (replicate 275 0) 0 (text_for w t) (Past n) line) where
       pub put : {after : List ℕ} → PutIs buffer 0 (take (n - 0) line) true after → TranslatedIs w t buffer (Translated.Text n j.slowed) after

@@ -9,7 +9,7 @@ use native.Mathlib.Numerals.{add-one}
 use lib.ListN.{length, get_or, set, take, drop, replicate, length-append, length-take, length-drop, length-replicate, take-append-drop}
 use lib.Seq.{get_or-take, get_or-drop, set_split, drop-append-le, take-append-le, drop-drop, take_at, drop_at, length-take-le, take-length, take-append_seam}
 use lib.Dec.{eqb}
-use borrow.Author.Tests.{le-leb, lt-leb, leb-true, eq_eqb, eqb-true}
+use borrow.Author.Tests.{le-leb, lt-leb, leb-true, eq-eqb, eqb-true}
 use borrow.Rule.Slice.PartMut.{put_mid}
 use Rattle.parts.specs.Parts.{part, put, fits_at, put_in, padded, same, PutIs}
 
@@ -175,4 +175,4 @@ same_is (x ∷ xs) (y ∷ ys) e =
 pub same_self : (xs : List ℕ) → same xs xs ≡ true
 unfolding same
 same_self [] = refl
-same_self (x ∷ xs) = rw (eq_eqb x x refl) (same_self xs)
+same_self (x ∷ xs) = rw (eq-eqb x x refl) (same_self xs)

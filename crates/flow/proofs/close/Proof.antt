@@ -4,7 +4,7 @@ use mathlib.Core.Path.{◌≡◌}
 use mathlib.Core.Bool.{true, false}
 use native.Mathlib.Omega.{arith}
 use borrow.Author.Rules.{rules}
-use borrow.Author.Tests.{eq_eqb, ne_eqb, lt-ltb, le-ltb}
+use borrow.Author.Tests.{eq-eqb, ne_eqb, lt-ltb, le-ltb}
 use Rattle.flow.specs.Flow.{again}
 use Rattle.flow.proofs.close.Statement.{statement}
 use Rattle.flow.proofs.close.Tie as tie
@@ -19,7 +19,7 @@ has-run n done z h = rw (ne_eqb n 0 z, le-ltb (done + 1) n (omega arith))
 
 returns : tie.Need-returns
 unfolding again
-returns c = simp (eq_eqb _ _ c.before.if1.true, c.start_of_lem.ensures)
+returns c = simp (eq-eqb _ _ c.before.if1.true, c.start_of_lem.ensures)
 
 returns-2 : tie.Need-returns-2
 returns-2 c =

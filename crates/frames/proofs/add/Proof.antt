@@ -1,7 +1,7 @@
 -- `frames::add` meets its contract: the same test as the definition's.
 -- Assumes nothing.
 use borrow.Author.Rules.{rules}
-use borrow.Author.Tests.{eq_eqb, ne_eqb}
+use borrow.Author.Tests.{eq-eqb, ne_eqb}
 use Rattle.frames.proofs.add.Statement.{statement}
 use Rattle.frames.proofs.add.Tie as tie
 
@@ -10,6 +10,6 @@ add_spec =
     tie.close
     (tie.spec
     (λ c κs. search rules)
-    (λ c. simp (eq_eqb _ _ c.before.if1.true) (c.finish.ensures _))
+    (λ c. simp (eq-eqb _ _ c.before.if1.true) (c.finish.ensures _))
     (λ c κs. search rules)
     (λ c. simp (ne_eqb _ _ c.before.before.if1.false) c.store.ensures))

@@ -1,7 +1,7 @@
 -- `frames::leave` meets its contract: it makes the definition's tests, and what is left of the bytes that leave a body is the CR.
 -- Assumes nothing.
 use borrow.Author.Rules.{rules}
-use borrow.Author.Tests.{eq_eqb, ne_eqb}
+use borrow.Author.Tests.{eq-eqb, ne_eqb}
 use Rattle.parts.specs.Letters.{slash, stx}
 use Rattle.frames.proofs.Runs.{leaves-cr}
 use Rattle.frames.proofs.leave.Statement.{statement}
@@ -19,8 +19,8 @@ leave_spec =
     tie.close
     (tie.spec
     (λ c κs. search rules)
-    (λ c p body. simp (c.at.ensures, eq_eqb _ _ c.before.if1.true))
+    (λ c p body. simp (c.at.ensures, eq-eqb _ _ c.before.if1.true))
     (λ c κs. search rules)
-    (λ c p body. simp (c.at2.ensures, eq_eqb _ _ c.before.if2.true, ne_eqb _ _ c.before.before.if1.false))
+    (λ c p body. simp (c.at2.ensures, eq-eqb _ _ c.before.if2.true, ne_eqb _ _ c.before.before.if1.false))
     (λ c κs. search rules)
     returns-3)

@@ -4,7 +4,7 @@ use mathlib.Core.Path.{◌≡◌, sym}
 use mathlib.Core.Bool.{false}
 use native.Mathlib.Omega.{arith}
 use lib.Dec.{eqb}
-use borrow.Author.Tests.{eq_eqb, ne_eqb}
+use borrow.Author.Tests.{eq-eqb, ne_eqb}
 use Rattle.parts.specs.Letters.{cr, stx, slash}
 use Rattle.frames.specs.Pieces.{leaves_body}
 use Rattle.frames.proofs.leaves.Statement.{statement}
@@ -25,6 +25,6 @@ leaves-spec =
     tie.close
     (tie.spec
     (λ c. sym (above _ c.if1.true))
-    (λ c. simp (eq_eqb _ _ c.if2.true))
-    (λ c. simp (eq_eqb _ _ c.if3.true, ne_eqb _ _ c.before.if2.false))
+    (λ c. simp (eq-eqb _ _ c.if2.true))
+    (λ c. simp (eq-eqb _ _ c.if3.true, ne_eqb _ _ c.before.if2.false))
     (λ c. last _ c.before.if2.false c.if3.false))

@@ -7,7 +7,7 @@ use native.Mathlib.Numerals.{add-one}
 use native.Mathlib.Omega.{arith}
 use lib.ListN.{length}
 use borrow.Author.Rules.{rules}
-use borrow.Author.Tests.{eq_eqb, ne_eqb, not-true, not-false}
+use borrow.Author.Tests.{eq-eqb, ne_eqb, not-true, not-false}
 use Rattle.image.specs.Image.{image_bytes, slots, slots_by}
 use Rattle.image.specs.Calls.{checked_by}
 use Rattle.image.proofs.SlotLaws.{slots-bad}
@@ -36,7 +36,7 @@ returns-2 c =
     let image = l.before.before.before.args.image.now in
     let most = l.before.before.before.args.most in
     let bad = slots-bad most image l.loop.slot slots (omega arith) (sym g.slot-by.ensures ∙ not-true _ c.if2.true) in
-    rw (eq_eqb (length image) image_bytes l.before.if1.false, bad)
+    rw (eq-eqb (length image) image_bytes l.before.if1.false, bad)
 
 loop-again : tie.Need-loop-preserved invariant-loop decreases-loop
 unfolding slots_by
@@ -51,7 +51,7 @@ returns-3 c =
     let l = c.before in
     let image = l.before.before.before.args.image.now in
     let e : l.loop.slot ≡ slots = omega arith in
-    rw (eq_eqb (length image) image_bytes l.before.if1.false, ← e, l.loop.invariant.1)
+    rw (eq-eqb (length image) image_bytes l.before.if1.false, ← e, l.loop.invariant.1)
 
 pub check-by-spec : {M : Type 1} → statement M
 check-by-spec =

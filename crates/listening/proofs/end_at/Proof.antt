@@ -1,7 +1,7 @@
 -- `listening::end_at` meets its contract: the same test as the definition's.
 -- Assumes nothing.
 use borrow.Author.Rules.{rules}
-use borrow.Author.Tests.{eq_eqb, ne_eqb}
+use borrow.Author.Tests.{eq-eqb, ne_eqb}
 use Rattle.listening.proofs.end_at.Statement.{statement}
 use Rattle.listening.proofs.end_at.Tie as tie
 
@@ -9,7 +9,7 @@ returns : tie.Need-returns
 returns c =
     simp (
       c.unit-after.ensures,
-      eq_eqb _ _ c.before.if1.true,
+      eq-eqb _ _ c.before.if1.true,
     )
 
 returns-2 : tie.Need-returns-2

@@ -1,17 +1,17 @@
 -- `listening::in_oem_address` meets its contract: the same tests as the definition's.
 -- Assumes nothing.
 use borrow.Author.Rules.{rules}
-use borrow.Author.Tests.{eq_eqb, ne_eqb}
+use borrow.Author.Tests.{eq-eqb, ne_eqb}
 use Rattle.listening.proofs.in_oem_address.Statement.{statement}
 use Rattle.listening.proofs.in_oem_address.Tie as tie
 
 returns : tie.Need-returns
-returns c = simp (eq_eqb _ _ c.if1.true)
+returns c = simp (eq-eqb _ _ c.if1.true)
 
 returns-2 : tie.Need-returns-2
 returns-2 c =
     simp (
-      eq_eqb _ _ c.if2.true,
+      eq-eqb _ _ c.if2.true,
       ← c.before.with_byte.ensures,
       ne_eqb _ _ c.before.before.if1.false,
     )

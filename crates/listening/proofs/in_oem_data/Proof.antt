@@ -4,12 +4,12 @@ use borrow.Author.Rules.{rules}
 use native.Mathlib.Omega.{arith}
 use mathlib.Core.Path.{sym, ◌∙◌}
 use Rattle.listening.proofs.Places.{room}
-use borrow.Author.Tests.{eq_eqb, ne_eqb}
+use borrow.Author.Tests.{eq-eqb, ne_eqb}
 use Rattle.listening.proofs.in_oem_data.Statement.{statement}
 use Rattle.listening.proofs.in_oem_data.Tie as tie
 
 returns : tie.Need-returns
-returns c = simp (eq_eqb _ _ c.if1.true)
+returns c = simp (eq-eqb _ _ c.if1.true)
 
 add-t9 : tie.Need-overflow-add-t9
 add-t9 c = let l = room _ _ (sym c.before.may-follow.ensures ∙ c.if2.true) in record { fits = omega (arith, l) }

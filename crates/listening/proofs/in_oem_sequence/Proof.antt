@@ -1,11 +1,11 @@
 -- `listening::in_oem_sequence` meets its contract: the same tests as the definition's.
 -- Assumes nothing.
-use borrow.Author.Tests.{le-leb, lt-leb, eq_eqb, ne_eqb}
+use borrow.Author.Tests.{le-leb, lt-leb, eq-eqb, ne_eqb}
 use Rattle.listening.proofs.in_oem_sequence.Statement.{statement}
 use Rattle.listening.proofs.in_oem_sequence.Tie as tie
 
 returns : tie.Need-returns
-returns c = simp (eq_eqb _ _ c.if1.true)
+returns c = simp (eq-eqb _ _ c.if1.true)
 
 returns-2 : tie.Need-returns-2
 returns-2 c =

@@ -2,7 +2,7 @@
 -- Assumes nothing.
 use borrow.Author.Rules.{rules}
 use mathlib.Core.Bool.{not-not}
-use borrow.Author.Tests.{eq_eqb, ne_eqb}
+use borrow.Author.Tests.{eq-eqb, ne_eqb}
 use Rattle.listening.proofs.opens.Statement.{statement}
 use Rattle.listening.proofs.opens.Tie as tie
 
@@ -10,7 +10,7 @@ returns : tie.Need-returns
 returns c =
     simp (
       c.summing.ensures,
-      eq_eqb _ _ c.before.if1.true,
+      eq-eqb _ _ c.before.if1.true,
     ) (not-not _)
 
 returns-2 : tie.Need-returns-2

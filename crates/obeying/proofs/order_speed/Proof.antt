@@ -1,7 +1,7 @@
 -- `obeying::order_speed` meets its contract: by the fault that an idle unit finds in the line.
 -- Assumes nothing.
 use borrow.Author.Rules.{rules}
-use borrow.Author.Tests.{eq_eqb, ne_eqb}
+use borrow.Author.Tests.{eq-eqb, ne_eqb}
 use Rattle.lines.proofs.FaultLaws.{place-most}
 use Rattle.obeying.proofs.order_speed.Statement.{statement}
 use Rattle.obeying.proofs.order_speed.Tie as tie
@@ -9,7 +9,7 @@ use Rattle.obeying.proofs.order_speed.Tie as tie
 returns : tie.Need-returns
 returns c core =
     let fault = c.before.before.before.before.check_line in
-    rw (← fault.ensures, eq_eqb _ _ c.before.before.if1.true, ← c.before.speed-in.ensures) (c.hold.ensures core)
+    rw (← fault.ensures, eq-eqb _ _ c.before.before.if1.true, ← c.before.speed-in.ensures) (c.hold.ensures core)
 
 returns-2 : tie.Need-returns-2
 returns-2 c core = simp (c.refuse-at.ensures, ← c.before.before.before.check_line.ensures, ne_eqb _ _ c.before.if1.false)

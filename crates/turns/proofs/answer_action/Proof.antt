@@ -1,6 +1,6 @@
 -- `turns::answer_action` meets its contract: the test is the one of the definition. Assumes nothing.
 use borrow.Author.Rules.{rules}
-use borrow.Author.Tests.{eq_eqb, ne_eqb}
+use borrow.Author.Tests.{eq-eqb, ne_eqb}
 use Rattle.turns.specs.Turns.{action_answered}
 use Rattle.turns.proofs.answer_action.Statement.{statement}
 use Rattle.turns.proofs.answer_action.Tie as tie
@@ -10,6 +10,6 @@ unfolding action_answered
 answer-action-spec =
     tie.close
     (tie.spec
-    (λ c. simp (eq_eqb _ _ c.if1.true))
+    (λ c. simp (eq-eqb _ _ c.if1.true))
     (λ c κs. search rules)
     (λ c. simp (c.way.ensures, ne_eqb _ _ c.before.if1.false)))

@@ -2,7 +2,7 @@
 use mathlib.Core.Path.{sym, ◌∙◌}
 use native.Mathlib.Omega.{arith}
 use borrow.Author.Rules.{rules}
-use borrow.Author.Tests.{eq_eqb, ne_eqb}
+use borrow.Author.Tests.{eq-eqb, ne_eqb}
 use Rattle.forecast.proofs.BoundLaws.{all-within}
 use Rattle.forecast.proofs.counting.end_loop.Statement.{statement}
 use Rattle.forecast.proofs.counting.end_loop.Tie as tie
@@ -27,7 +27,7 @@ end-loop-spec =
     tie.close
     (tie.spec
     (λ c κs. search rules)
-    (λ c. simp (c.mark.ensures, eq_eqb _ _ c.before.if1.true))
+    (λ c. simp (c.mark.ensures, eq-eqb _ _ c.before.if1.true))
     (λ c κs. search rules)
     add-t8
     mul-t9

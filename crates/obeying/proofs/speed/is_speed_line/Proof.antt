@@ -1,6 +1,6 @@
 -- `obeying::is_speed_line` meets its contract: the same tests as the definition's. Assumes nothing.
 use borrow.Author.Rules.{rules}
-use borrow.Author.Tests.{eq_eqb, ne_eqb}
+use borrow.Author.Tests.{eq-eqb, ne_eqb}
 use Rattle.obeying.specs.Speed.{speed_line}
 use Rattle.obeying.proofs.SpeedLaws.{no_bytes-line, by_last-byte}
 use Rattle.obeying.proofs.speed.is_speed_line.Statement.{statement}
@@ -14,7 +14,7 @@ returns-3 : tie.Need-returns-3
 unfolding speed_line
 returns-3 c =
     simp (
-      eq_eqb _ _ c.before.before.before.if2.false,
+      eq-eqb _ _ c.before.before.before.if2.false,
       ← c.before.before.read-operand.ensures,
       ← c.before.operand-end.ensures,
       ne_eqb _ _ c.if3.true,

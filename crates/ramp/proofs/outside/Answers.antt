@@ -1,0 +1,12 @@
+-- `ramp::outside` meets its contract: the same two comparisons. Assumes nothing.
+use borrow.Author.Tests.{lt-ltb, le-ltb}
+use Rattle.ramp.specs.Ranges.{outside}
+use Rattle.ramp.proofs.outside.Goals as goal
+
+pub returns-then-x-low : goal.returns-then-x-low
+unfolding outside
+returns-then-x-low c = simp (lt-ltb _ _ c.if-x-low.true)
+
+pub returns : goal.returns
+unfolding outside
+returns c = simp (le-ltb _ _ c.if-x-low.false)
