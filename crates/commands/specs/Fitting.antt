@@ -12,7 +12,6 @@ use Rattle.commands.specs.declared.Fitted.TheVariants.{Fits, Fails}
 use Rattle.commands.specs.declared.Read.{Read}
 use Rattle.commands.specs.declared.Read.TheVariants.{At, Bad}
 use Rattle.commands.specs.Table.{asks_of, command_of}
-use Rattle.commands.specs.Reading.{fault}
 
 -- a plain command with another number
 abbrev pub act_numbered : ℕ → Act → Act

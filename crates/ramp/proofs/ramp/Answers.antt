@@ -43,7 +43,7 @@ finite_peak-requires c =
 
 pub taken-requires-2 : goal.taken-requires-2
 taken-requires-2 c =
-    let r = finite_peak-requires (goal.at.taken-requires-2 c).Else-outside-3 κs in
+    let r = finite_peak-requires c.before in
     (rw c.finite_peak.ensures (finite-within r.0 r.1 r.2), r.1)
 
 pub returns : goal.returns
