@@ -1,0 +1,16 @@
+-- `motor::go_to` meets its contract: the place against the present one. Assumes nothing.
+use borrow.Author.Tests.{lt-ltb, le-ltb, eq-eqb, ne_eqb}
+use Rattle.motor.specs.Motion.{absolute}
+use Rattle.motor.proofs.moves.go_to.Goals as goal
+
+pub returns-then-n-p : goal.returns-then-n-p
+unfolding absolute
+returns-then-n-p c = simp (eq-eqb _ _ c.if-n-p.true)
+
+pub returns-then-n-p-2 : goal.returns-then-n-p-2
+unfolding absolute
+returns-then-n-p-2 c = simp (c.go_finite.ensures, lt-ltb _ _ c.if-n-p-2.true, ne_eqb _ _ c.if-n-p.false)
+
+pub returns : goal.returns
+unfolding absolute
+returns c = simp (c.go_finite-2.ensures, le-ltb _ _ c.if-n-p-2.false, ne_eqb _ _ c.if-n-p.false)
