@@ -68,6 +68,8 @@ skipped_ok {t} {f} {k} {n} {l} {c} h e q = go c q (rw q at (rw e at (lawful h.ch
     go (Skip i) r s = gone_ok (gone_ok h e refl) r refl
     go (Jump i) r s = gone_ok (gone_ok h e refl) r refl
     go (Plain a) r s = gone_ok (gone_ok h e refl) r refl
+    go LoopBegin r s = elim s [ ]
+    go (LoopEnd _) r s = elim s [ ]
 
 -- ---- what stands at the place
 

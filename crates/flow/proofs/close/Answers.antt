@@ -1,0 +1,34 @@
+-- `flow::close` meets its contract: what has run below n - 1 times before runs again. Assumes nothing.
+use Prim.Native.Nat.{ℕ, ◌+◌, ◌-◌, ◌≤◌, ◌<◌}
+use mathlib.Core.Path.{◌≡◌}
+use mathlib.Core.Bool.{true, false}
+use native.Mathlib.Omega.{arith}
+use borrow.Author.Tests.{eq-eqb, ne_eqb, lt-ltb, le-ltb}
+use Rattle.flow.specs.Flow.{again}
+use Rattle.flow.proofs.close.Goals as goal
+
+runs-again : (n done : ℕ) → (n ≡ 0 → ⊥) → done < n - 1 → again n done ≡ true
+unfolding again
+runs-again n done z h = rw (ne_eqb n 0 z, lt-ltb (done + 1) n (omega arith))
+
+has-run : (n done : ℕ) → (n ≡ 0 → ⊥) → n - 1 ≤ done → again n done ≡ false
+unfolding again
+has-run n done z h = rw (ne_eqb n 0 z, le-ltb (done + 1) n (omega arith))
+
+pub returns-then-n-eq0 : goal.returns-then-n-eq0
+unfolding again
+returns-then-n-eq0 c = simp (eq-eqb _ _ c.if-n-eq0.true, c.start_of.ensures)
+
+pub returns-then-done-n : goal.returns-then-done-n
+returns-then-done-n c =
+    let left = c.if-n-eq0.false in
+    simp (
+      c.start_of-then-done-n.ensures,
+      c.put_done-dones.ensures,
+      ← c.done_of-done.ensures,
+      ne_eqb _ _ left,
+      runs-again _ _ left c.if-done-n.true,
+    )
+
+pub returns : goal.returns
+returns c = simp (← c.done_of-done.ensures, has-run _ _ c.if-n-eq0.false c.if-done-n.false)

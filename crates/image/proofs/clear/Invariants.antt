@@ -1,0 +1,14 @@
+-- `image::clear` meets its contract: the entries written so far stand at the front (the invariant); zeros behind all of them make the empty image (`emptied`).
+-- Assumes nothing.
+use Prim.Native.Nat.{◌≤◌, ◌-◌}
+use mathlib.Core.Path.{◌≡◌}
+use lib.ListN.{length}
+use Rattle.parts.specs.Parts.{put}
+use Rattle.image.specs.Image.{slots, empty_entries}
+use Rattle.image.proofs.clear.Given as goal
+
+abbrev pub invariant-loop-slot : goal.invariant-loop-slot
+invariant-loop-slot l = (l.slot ≤ slots) × (l.image ≡ put l.initial.image 0 (empty_entries l.slot)) × (length l.image ≡ length l.initial.image)
+
+abbrev pub decreases-loop-slot : goal.decreases-loop-slot
+decreases-loop-slot l = slots - l.slot
