@@ -12,8 +12,7 @@ use Rattle.listening.proofs.Growing.{one_record, never_falls}
 use Rattle.listening.proofs.Beside.{frames-counted}
 use Rattle.listening.proofs.Answering.{answers-heard}
 use Rattle.listening.proofs.Story.{last_frame, only-answers}
-use Rattle.listening.proofs.listening_claims.Statement.{statement}
-use Rattle.listening.proofs.listening_claims.Tie as tie
+use Rattle.listening.proofs.listening_claims.Goals as goal
 
 heard-examples : HeardExamples
 unfolding alone_of may_follow hear_of listen_of xor good_status digits_in digits_of ascii decimal hex_digit unit_line
@@ -30,7 +29,7 @@ heard-examples = record {
   longest-line = refl;
 }
 
-returns : tie.Need-returns
+pub returns : goal.returns
 returns c = record {
   cut = cut_law;
   one_record = one_record;
@@ -41,6 +40,3 @@ returns c = record {
   only-answers = only-answers;
   examples = heard-examples;
 }
-
-pub listening-claims-spec : {M : Type 1} → statement M
-listening-claims-spec = tie.close (tie.spec returns)
