@@ -1,7 +1,5 @@
 pub mod Lining
 pub mod Noting
-pub mod Guard
-pub mod Loan
 pub mod Places
 pub mod Cuts
 pub mod Growing

@@ -1,4 +1,4 @@
--- What the definition says of a table, in the words that a walk of the code has: one `set` at the place of the record.
+-- What the definition says of a table, in the words that the code's goals have: one `set` at the place of the record.
 -- Assumes nothing.
 use mathlib.Core.Path.{◌≡◌, refl, sym, ◌∙◌, ap}
 use Prim.Native.Nat.{ℕ, zero, suc, ◌≤◌, ◌-◌}

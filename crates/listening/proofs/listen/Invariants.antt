@@ -3,8 +3,15 @@
 use mathlib.Core.Path.{◌≡◌}
 use Prim.Native.Nat.{◌-◌, ◌≤◌}
 use lib.ListN.{length, drop}
+use mathlib.Core.List.{List}
+use Rattle.listening.specs.declared.UnitRecord.{UnitRecord}
+use Rattle.listening.specs.declared.Ear.{Ear}
+use Rattle.listening.specs.declared.Listener.{Listener}
 use Rattle.listening.specs.Listen.{listen_of}
 use Rattle.listening.proofs.listen.Given as goal
+
+abbrev pub listener : Ear → List UnitRecord → Listener
+listener ear table = record { ear = ear; table = table }
 
 abbrev pub invariant-loop-i : goal.invariant-loop-i
 invariant-loop-i l =
