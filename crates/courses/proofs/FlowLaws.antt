@@ -83,5 +83,6 @@ module _ {t : List ℕ} {whole : Course} {xs : List Step} (f : Flow) (h : FlowOk
   closed-taken m n a = go f.depth refl a
     where
       go : (k : ℕ) → f.depth ≡ k → Ended t whole n m xs (open_loops k f.starts f.dones) → Taken t whole xs (closed (k - 1) m n f)
+      go zero e x = elim x [ ]
       go (suc d) e (back o l a) = let z : suc d - 1 ≡ d = omega arith in rw z (back_taken d m n e l a)
       go (suc d) e (on o l y a) = let z : suc d - 1 ≡ d = omega arith in rw z (on-taken d m n l y a)

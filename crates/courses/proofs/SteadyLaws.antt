@@ -8,7 +8,7 @@ use native.Mathlib.Nat.{suc-mul, zero-mul}
 use lib.ListN.{length, length-append}
 use Rattle.commands.specs.declared.Command.{Command}
 use Rattle.commands.specs.declared.Command.TheVariants.{LoopBegin, LoopEnd, Plain}
-use Rattle.courses.specs.Meaning.{Course, ends, plain, skip, jump, loop, Step, step, commands_of, Runs, here, end, taken, looped, looping, Rounds, none, more, Steady, times, unrolled, cost}
+use Rattle.courses.specs.Meaning.{Course, ends, plain, skip, jump, loop, Step, step, commands_of, Runs, here, end, taken, looped, looping, Rounds, none, more, Steady, times, unrolled, cost, tested, skipped, left}
 
 -- ---- the cost
 
@@ -60,9 +60,11 @@ rounds_are {body} {n} one (more {k = k} s {xs = xs} {ys = ys} r q) =
 pub one_way : {c : Course} {xs : List Step} → Steady c → Runs c true xs → commands_of xs ≡ unrolled c
 unfolding unrolled
 one_way {c = ends} s end = refl
-one_way {c = plain a c} s (taken r) = ap (λ (l : List Command). Plain a ∷ l) (one_way s r)
+one_way {c = plain a c} s (taken r) = ap (λ (l : List Command). Plain a ∷ l) (one_way {c = c} s r)
 one_way {c = loop body (suc n) c} s (looped {xs = xs} {ys = ys} r q) =
-    ap (λ (l : List Command). LoopBegin ∷ l) (commands-append xs ys ∙ rw (rounds_are (λ zs z. one_way s.1 z) r, one_way s.2 q))
+    ap (λ (l : List Command). LoopBegin ∷ l) (commands-append xs ys ∙ rw (rounds_are (λ zs z. one_way {c = body} s.1 z) r, one_way {c = c} s.2 q))
+one_way {c = skip i c} s (tested _ _) = elim s [ ]
+one_way {c = skip i c} s (skipped _ _) = elim s [ ]
 
 regroup : (a e p g b u : List Command) → (a ++ (((e ++ p) ++ g) ++ b)) ++ u ≡ (a ++ e) ++ (p ++ (g ++ (b ++ u)))
 regroup a e p g b u = simp append_assoc
@@ -70,27 +72,30 @@ regroup a e p g b u = simp append_assoc
 pub in_order : {c : Course} {xs : List Step} → Steady c → Runs c false xs → (es : List Command) × (unrolled c ≡ commands_of xs ++ es)
 unfolding unrolled
 in_order {c} s here = (unrolled c, refl)
-in_order {c = plain a c} s (taken r) = let p = in_order s r in (p.0, ap (λ (l : List Command). Plain a ∷ l) p.1)
+in_order {c = plain a c} s (taken r) = let p = in_order {c = c} s r in (p.0, ap (λ (l : List Command). Plain a ∷ l) p.1)
 in_order {c = loop body (suc n) c} s (looped {xs = xs} {ys = ys} r q) =
-    let p = in_order s.2 q in
+    let p = in_order {c = c} s.2 q in
     let x = unrolled body ++ (LoopEnd (suc n) ∷ []) in
     let e : times (suc n) x ++ unrolled c ≡ commands_of (xs ++ ys) ++ p.0 =
     ap (λ (y : List Command). times (suc n) x ++ y) p.1
-    ∙ ap (λ (y : List Command). y ++ (commands_of ys ++ p.0)) (sym (rounds_are (λ zs y. one_way s.1 y) r))
+    ∙ ap (λ (y : List Command). y ++ (commands_of ys ++ p.0)) (sym (rounds_are (λ zs y. one_way {c = body} s.1 y) r))
     ∙ sym (append_assoc (commands_of xs) (commands_of ys) p.0)
     ∙ ap (λ (y : List Command). y ++ p.0) (sym (commands-append xs ys)) in
     (p.0, ap (λ (l : List Command). LoopBegin ∷ l) e)
+in_order {c = skip i c} s (tested _ _) = elim s [ ]
+in_order {c = skip i c} s (skipped _ _) = elim s [ ]
+in_order {c = jump i c} s left = elim s [ ]
 in_order {c = loop body n c} s (looping {k = k} {xs = xs} {ys = ys} r b q) =
     let l : k < n = b s.0 in
     let x = unrolled body ++ (LoopEnd n ∷ []) in
     let j = n - suc k in
     let z : k + suc j ≡ n = omega arith in
-    let p = in_order s.1 q in
+    let p = in_order {c = body} s.1 q in
     let behind = p.0 ++ ((LoopEnd n ∷ []) ++ (times j x ++ unrolled c)) in
     let e : times n x ++ unrolled c ≡ commands_of (xs ++ ys) ++ behind =
     ap (λ (y : List Command). y ++ unrolled c) (rw z at (times_more k j x))
     ∙ ap (λ (y : List Command). (times k x ++ ((y ++ (LoopEnd n ∷ [])) ++ times j x)) ++ unrolled c) p.1
     ∙ regroup (times k x) (commands_of ys) p.0 (LoopEnd n ∷ []) (times j x) (unrolled c)
-    ∙ ap (λ (y : List Command). (y ++ commands_of ys) ++ behind) (sym (rounds_are (λ zs y. one_way s.1 y) r))
+    ∙ ap (λ (y : List Command). (y ++ commands_of ys) ++ behind) (sym (rounds_are (λ zs y. one_way {c = body} s.1 y) r))
     ∙ ap (λ (y : List Command). y ++ behind) (sym (commands-append xs ys)) in
     (behind, ap (λ (y : List Command). LoopBegin ∷ y) e)

@@ -28,7 +28,7 @@ use Rattle.older.specs.declared.Way.{Way}
 use Rattle.older.specs.declared.Way.TheVariants.{Inward, Outward}
 use Rattle.older.specs.declared.Stands.TheVariants.{Carries, Ends}
 use Rattle.older.specs.Older.{older_asks, has_row, both_have, letter_of, number_of, older_in_range, older_takes, sets_ramp, becomes}
-use Rattle.older.specs.Items.{stands_at, Item, carries, items_in, items_from, letter_places, operand_places, items_placed, most_carried, places_past, refusal_of, carried_commands, any_ramp, text_for}
+use Rattle.older.specs.Items.{stands_at, Item, items_in, items_from, letter_places, operand_places, items_placed, most_carried, places_past, refusal_of, carried_commands, any_ramp, text_for}
 use Rattle.older.specs.Examples.{gives, outcome}
 use Rattle.older.specs.Claims.{all_taken, Passed}
 use Rattle.older.proofs.CarryLaws.{both, becomes-same, takes_same}

@@ -9,7 +9,7 @@ use lib.Dec.{eqb}
 use borrow.Author.Tests.{ne_eqb}
 use Rattle.commands.specs.declared.Command.{Command}
 use Rattle.lines.specs.Texts.{Placed, placed, left_of, leftmost}
-use Rattle.lines.specs.Scan.{scan, see_of}
+use Rattle.lines.specs.Scan.{see_of}
 use Rattle.lines.proofs.PlaceLaws.{left-zero, left_assoc}
 use Rattle.lines.proofs.ScanLaws.{Held, opened, held_next, see_held, leftmost_fault, left-next, left_end, start_left}
 use Rattle.older.specs.declared.Way.{Way}

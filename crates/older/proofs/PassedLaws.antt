@@ -19,7 +19,7 @@ use Rattle.commands.specs.Writing.{spelling_of}
 use Rattle.commands.proofs.ReadingLaws.{read_end}
 use Rattle.lines.specs.Texts.{Reading, commands, faulty, Placed, unplaced, these, bare, bare_from, reading_from, skippable, structured, storable, fault_places, stored_places, leftmost, stored_by, text_good_by, text_good}
 use Rattle.lines.specs.Lists.{commands_text, all_in_range}
-use Rattle.lines.proofs.PlaceLaws.{Inside, AllInside, places-inside, leftmost-some, places-none, stored-none, none-nil, nil-none, nowhere}
+use Rattle.lines.proofs.PlaceLaws.{Inside, AllInside, places-inside, leftmost-some, places-none, stored-none, none-nil, nil-none}
 use Rattle.lines.proofs.TextLaws.{before_bare, bare-end, bare_at}
 use Rattle.lines.proofs.PieceLaws.{written_pieces, pieces_read}
 use Rattle.older.specs.declared.Way.{Way}

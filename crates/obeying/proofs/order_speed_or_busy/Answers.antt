@@ -1,12 +1,11 @@
 -- `obeying::order_speed_or_busy` meets its contract: an endless move and such a line, or busy.
 -- Assumes nothing.
-use borrow.Author.Tests.{not-true, not-false}
 use Rattle.obeying.proofs.order_speed_or_busy.Goals as goal
 
 pub returns-then-not-is_endless : goal.returns-then-not-is_endless
 returns-then-not-is_endless c =
     let endless = c.is_endless in
-    simp (c.refuse.ensures, ← endless.ensures, not-true endless.result c.if-not-is_endless.true)
+    simp (c.refuse.ensures, ← endless.ensures, c.if-not-is_endless.true)
 
 pub returns-then-not-is_speed_line : goal.returns-then-not-is_speed_line
 returns-then-not-is_speed_line c =
@@ -15,9 +14,9 @@ returns-then-not-is_speed_line c =
     simp (
       c.refuse-then-not-is_speed_line.ensures,
       ← endless.ensures,
-      not-false endless.result c.if-not-is_endless.false,
+      c.if-not-is_endless.false,
       ← line.ensures,
-      not-true line.result c.if-not-is_speed_line.true,
+      c.if-not-is_speed_line.true,
     )
 
 pub returns : goal.returns
@@ -27,7 +26,7 @@ returns c =
     simp (
       c.order_speed.ensures,
       ← endless.ensures,
-      not-false endless.result c.if-not-is_endless.false,
+      c.if-not-is_endless.false,
       ← line.ensures,
-      not-false line.result c.if-not-is_speed_line.false,
+      c.if-not-is_speed_line.false,
     )

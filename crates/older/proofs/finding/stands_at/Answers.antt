@@ -1,13 +1,13 @@
 -- `older::stands_at` meets its contract: the definition has the same tests, and what was read is in our range. Assumes nothing.
 use mathlib.Core.Path.{sym, ◌∙◌}
-use borrow.Author.Tests.{not-true, not-false, le-ltb, lt-ltb}
+use borrow.Author.Tests.{le-ltb, lt-ltb}
 use Rattle.commands.proofs.SpelledLaws.{spells_as}
 use Rattle.older.specs.Items.{stands_at}
 use Rattle.older.proofs.finding.stands_at.Goals as goal
 
 pub returns-then-not-both_have : goal.returns-then-not-both_have
 unfolding stands_at
-returns-then-not-both_have c = simp (not-true c.both_have.result c.if-not-both_have.true, ← c.both_have.ensures, lt-ltb _ _ c.if-text-at.false)
+returns-then-not-both_have c = simp (c.if-not-both_have.true, ← c.both_have.ensures, lt-ltb _ _ c.if-text-at.false)
 
 pub returns-in-At : goal.returns-in-At
 unfolding stands_at
@@ -16,7 +16,7 @@ returns-in-At c =
       c.carries.ensures,
       c.in-At.is,
       ← c.read_command-r.ensures,
-      not-false c.both_have.result c.if-not-both_have.false,
+      c.if-not-both_have.false,
       ← c.both_have.ensures,
       lt-ltb _ _ c.if-text-at.false,
     )
@@ -29,7 +29,7 @@ returns-in-Bad c =
       c.stand_in.ensures,
       c.in-Bad.is,
       ← c.read_command-r.ensures,
-      not-false c.both_have.result c.if-not-both_have.false,
+      c.if-not-both_have.false,
       ← c.both_have.ensures,
       lt-ltb _ _ c.if-text-at.false,
     )
@@ -40,7 +40,7 @@ returns-in-End c =
     simp (
       c.in-End.is,
       ← c.read_command-r.ensures,
-      not-false c.both_have.result c.if-not-both_have.false,
+      c.if-not-both_have.false,
       ← c.both_have.ensures,
       lt-ltb _ _ c.if-text-at.false,
     )

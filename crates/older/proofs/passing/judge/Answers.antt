@@ -1,6 +1,5 @@
 -- `older::judge` meets its contract. The invariant: going on from here judges the whole text (`Passing`).
 -- Each item is a byte long at least, so what is left falls. Assumes nothing.
-use Prim.Native.Nat.{◌-◌}
 use mathlib.Core.Path.{sym, ◌∙◌}
 use native.Mathlib.Omega.{arith}
 use Rattle.older.proofs.ItemLaws.{good-goes, letter-goes, unfit-goes}

@@ -1,5 +1,4 @@
 -- `older::write_text` meets its contract. The invariant: what is written, and then what is left, is the whole (`Writing`). Assumes nothing.
-use Prim.Native.Nat.{◌-◌}
 use mathlib.Core.Path.{sym, ◌∙◌}
 use native.Mathlib.Omega.{arith}
 use Rattle.host.proofs.AddLaws.{added-length}
