@@ -63,6 +63,8 @@ one_way {c = ends} s end = refl
 one_way {c = plain a c} s (taken r) = ap (λ (l : List Command). Plain a ∷ l) (one_way {c = c} s r)
 one_way {c = loop body (suc n) c} s (looped {xs = xs} {ys = ys} r q) =
     ap (λ (l : List Command). LoopBegin ∷ l) (commands-append xs ys ∙ rw (rounds_are (λ zs z. one_way {c = body} s.1 z) r, one_way {c = c} s.2 q))
+one_way {c = jump i c} s r = elim s [ ]
+one_way {c = loop body zero c} s r = elim r [ ]
 one_way {c = skip i c} s (tested _ _) = elim s [ ]
 one_way {c = skip i c} s (skipped _ _) = elim s [ ]
 

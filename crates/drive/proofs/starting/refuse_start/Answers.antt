@@ -1,0 +1,5 @@
+-- `drive::refuse_start` meets its contract: the record of number 0. Assumes nothing.
+use Rattle.drive.proofs.starting.refuse_start.Goals as goal
+
+pub returns : goal.returns
+returns = (λ c body text. simp (c.fresh_core.ensures, c.fresh.ensures))
