@@ -8,42 +8,57 @@ use host::LineWritten;
 use lines::Slot;
 use older::{Refusal, Translated, Why};
 use ramp::{Figures, Verdict};
+use std::io;
 
 // The longest text of the older drive: 25 commands of eleven bytes.
 const TEXT_MOST: usize = 275;
 
 // Tells the answer to an operation that leaves the unit as it is.
-pub(crate) fn ask(t: Task, given: &[u8], image: &[u8], buffer: &mut [u8]) {
+pub(crate) fn ask(
+    rt: &impl Print,
+    t: Task,
+    given: &[u8],
+    image: &[u8],
+    buffer: &mut [u8],
+) -> io::Result<()> {
     let row = t.row;
     match row {
-        forms::LINE => tell_fault(forms::LINE, 0, lines::check_line(given)),
-        forms::TEXT => telling::say(forms::TEXT, lines::check_text(given) as u64, 0, 0, 0),
-        forms::READ => tell_packet(given),
-        forms::COUNT => tell_count(forecast::count(given)),
-        forms::LISTEN => heard::tell(given),
-        forms::OLDER => translate(forms::OLDER, given),
-        forms::NEWER => translate(forms::NEWER, given),
-        forms::WRITE => write(t, given, buffer),
-        forms::STORE => telling::say_of(forms::STORE, 0, 0, 0, 0, image),
-        _ => ask_plain(t, image.len(), buffer),
+        forms::LINE => tell_fault(rt, forms::LINE, 0, lines::check_line(given)),
+        forms::TEXT => telling::say(rt, forms::TEXT, lines::check_text(given) as u64, 0, 0, 0),
+        forms::READ => tell_packet(rt, given),
+        forms::COUNT => tell_count(rt, forecast::count(given)),
+        forms::LISTEN => heard::tell(rt, given),
+        forms::OLDER => translate(rt, forms::OLDER, given),
+        forms::NEWER => translate(rt, forms::NEWER, given),
+        forms::WRITE => write(rt, t, given, buffer),
+        forms::STORE => telling::say_of(rt, forms::STORE, 0, 0, 0, 0, image),
+        _ => ask_plain(rt, t, image.len(), buffer),
     }
 }
 
 // The same where no bytes are given: `ramp`, and what only tells of the table or of what is lent.
-fn ask_plain(t: Task, image_bytes: usize, buffer: &[u8]) {
+fn ask_plain(rt: &impl Print, t: Task, image_bytes: usize, buffer: &[u8]) -> io::Result<()> {
     let row = t.row;
     match row {
-        forms::RAMP => tell_ramp(t, false),
-        forms::ENDLESS => tell_ramp(t, true),
-        forms::HELP => tell_words(forms::HELP, t),
-        telling::REASON => tell_words(telling::REASON, t),
-        _ => telling::say_of(t.row, image_bytes as u64, buffer.len() as u64, 0, 0, buffer),
+        forms::RAMP => tell_ramp(rt, t, false),
+        forms::ENDLESS => tell_ramp(rt, t, true),
+        forms::HELP => tell_words(rt, forms::HELP, t),
+        telling::REASON => tell_words(rt, telling::REASON, t),
+        _ => telling::say_of(
+            rt,
+            t.row,
+            image_bytes as u64,
+            buffer.len() as u64,
+            0,
+            0,
+            buffer,
+        ),
     }
 }
 
 // The table of the operations; of a line that is none of them what is wrong with it.
-fn tell_words(row: usize, t: Task) {
-    telling::say_of(row, t.a, 0, 0, 0, words(&forms::TABLE, row, t.at));
+fn tell_words(rt: &impl Print, row: usize, t: Task) -> io::Result<()> {
+    telling::say_of(rt, row, t.a, 0, 0, 0, words(&forms::TABLE, row, t.at))
 }
 
 // The table, or of a reason the word at a place of it.
@@ -55,25 +70,26 @@ fn words(table: &[u8], row: usize, at: usize) -> &[u8] {
 }
 
 // A code, and the place of the fault where it has one.
-fn tell_fault(row: usize, k: u64, fault: Fault) {
+fn tell_fault(rt: &impl Print, row: usize, k: u64, fault: Fault) -> io::Result<()> {
     telling::say(
+        rt,
         row,
         k,
         fault.code as u64,
         (fault.place != 0) as u64,
         fault.place as u64,
-    );
+    )
 }
 
 // Status and data of a packet.
-fn tell_packet(bytes: &[u8]) {
+fn tell_packet(rt: &impl Print, bytes: &[u8]) -> io::Result<()> {
     let p = read_either(bytes);
     let found = p.found;
     let Found::OnePacket = found else {
-        return telling::say(forms::READ, 1, 0, 0, 0);
+        return telling::say(rt, forms::READ, 1, 0, 0, 0);
     };
     let data = parts::part(bytes, p.at, p.length);
-    telling::say_of(forms::READ, 0, p.status as u64, 0, 0, data);
+    telling::say_of(rt, forms::READ, 0, p.status as u64, 0, 0, data)
 }
 
 // A packet read, in the OEM framing where it begins with 02.
@@ -85,34 +101,39 @@ pub(crate) fn read_either(bytes: &[u8]) -> Packet {
 }
 
 // How many commands a run takes, or why that is not said.
-fn tell_count(counted: Counted) {
+fn tell_count(rt: &impl Print, counted: Counted) -> io::Result<()> {
     match counted {
-        Counted::Commands(n) => telling::say(forms::COUNT, 0, n, 0, 0),
-        Counted::Letter => telling::say(forms::COUNT, 1, 0, 0, 0),
-        Counted::TooMany => telling::say(forms::COUNT, 2, 0, 0, 0),
-        Counted::Refused(f) => tell_fault(forms::COUNT, 3, f),
+        Counted::Commands(n) => telling::say(rt, forms::COUNT, 0, n, 0, 0),
+        Counted::Letter => telling::say(rt, forms::COUNT, 1, 0, 0, 0),
+        Counted::TooMany => telling::say(rt, forms::COUNT, 2, 0, 0, 0),
+        Counted::Refused(f) => tell_fault(rt, forms::COUNT, 3, f),
     }
 }
 
 // `older HEX`, `newer HEX`: a text of one drive on the other.
-fn translate(row: usize, text: &[u8]) {
+fn translate(rt: &impl Print, row: usize, text: &[u8]) -> io::Result<()> {
     let mut out = [0u8; TEXT_MOST];
     if row == forms::OLDER {
         let read = older::into_ours(text, &mut out);
-        return tell_translated(row, read, &out);
+        return tell_translated(rt, row, read, &out);
     }
     let written = older::for_older(text, &mut out);
-    tell_translated(row, written, &out);
+    tell_translated(rt, row, written, &out)
 }
 
 // The text and whether a ramp was slowed, or why there is none and where.
-fn tell_translated(row: usize, translated: Translated, out: &[u8]) {
+fn tell_translated(
+    rt: &impl Print,
+    row: usize,
+    translated: Translated,
+    out: &[u8],
+) -> io::Result<()> {
     match translated {
         Translated::Text(n, slowed) => {
-            telling::say_of(row, 0, slowed as u64, 0, 0, parts::first(out, n))
+            telling::say_of(rt, row, 0, slowed as u64, 0, 0, parts::first(out, n))
         }
-        Translated::Refused(r) => telling::say(row, why_of(r), r.place as u64, 0, 0),
-        Translated::NoRoom => telling::say(row, 5, 0, 0, 0),
+        Translated::Refused(r) => telling::say(rt, row, why_of(r), r.place as u64, 0, 0),
+        Translated::NoRoom => telling::say(rt, row, 5, 0, 0, 0),
     }
 }
 
@@ -128,7 +149,7 @@ fn why_of(r: Refusal) -> u64 {
 }
 
 // `ramp V L N`, `ramp V L endless`: peak and distance, and the bits of three floats.
-fn tell_ramp(t: Task, endless: bool) {
+fn tell_ramp(rt: &impl Print, t: Task, endless: bool) -> io::Result<()> {
     let f = ramp::ramp(
         fields::narrow(t.a),
         fields::narrow(t.b),
@@ -145,7 +166,7 @@ fn tell_ramp(t: Task, endless: bool) {
         bits_of(r.acceleration),
         bits_of(r.time),
     ];
-    telling::print(forms::RAMP, &numbers, b"");
+    telling::print(rt, forms::RAMP, &numbers, b"")
 }
 
 // The number of a verdict among those of its row.
@@ -168,10 +189,10 @@ fn bits_of(x: f64) -> u64 {
 }
 
 // `write SLOT RUN LIST`
-fn write(t: Task, list: &[u8], buffer: &mut [u8]) {
+fn write(rt: &impl Print, t: Task, list: &[u8], buffer: &mut [u8]) -> io::Result<()> {
     let commands = list::list_of(list);
     let written = host::write_line(slot_of(t.a), commands, t.c as usize, t.b == 1, buffer);
-    tell_written(written, buffer);
+    tell_written(rt, written, buffer)
 }
 
 // The slot of a field.
@@ -183,12 +204,12 @@ fn slot_of(value: u64) -> Slot {
 }
 
 // What came of writing a line.
-fn tell_written(written: LineWritten, buffer: &[u8]) {
+fn tell_written(rt: &impl Print, written: LineWritten, buffer: &[u8]) -> io::Result<()> {
     match written {
         LineWritten::Bytes(n) => {
-            telling::say_of(forms::WRITE, 0, 0, 0, 0, parts::first(buffer, n))
+            telling::say_of(rt, forms::WRITE, 0, 0, 0, 0, parts::first(buffer, n))
         }
-        LineWritten::NoRoom => telling::say(forms::WRITE, 1, 0, 0, 0),
-        LineWritten::Refused(f) => tell_fault(forms::WRITE, 2, f),
+        LineWritten::NoRoom => telling::say(rt, forms::WRITE, 1, 0, 0, 0),
+        LineWritten::Refused(f) => tell_fault(rt, forms::WRITE, 2, f),
     }
 }

@@ -3,6 +3,7 @@ use crate::forms::Task;
 use crate::{fields, forms, state, telling, unit};
 use drive::{Record, Turned};
 use motor::{Motor, Wait};
+use std::io;
 use turns::Action;
 
 // The most turns of one run.
@@ -23,14 +24,20 @@ const IMAGE_LENGTH: u64 = 3;
 const SAMPLE: u64 = 4;
 
 // `run SAMPLE MS`, `timeline SAMPLE MS`; where that is refused no turn is made.
-pub(crate) fn run(u: Record, t: Task, text: &mut [u8; state::TEXT_BYTES], image: &[u8]) -> Record {
+pub(crate) fn run(
+    rt: &impl Print,
+    u: Record,
+    t: Task,
+    text: &mut [u8; state::TEXT_BYTES],
+    image: &[u8],
+) -> io::Result<Record> {
     let sample = fields::byte_of(t.b);
     let refusal = refusal_of(image::is_right_length(image), sample);
     if refusal != IDLE {
-        telling::say(forms::RUN, refusal, 0, 0, 0);
-        return u;
+        telling::say(rt, forms::RUN, refusal, 0, 0, 0)?;
+        return Ok(u);
     }
-    make_turns(u, t.row, sample, fields::narrow(t.c), text, image)
+    make_turns(rt, u, t.row, sample, fields::narrow(t.c), text, image)
 }
 
 // Why turns are refused; IDLE where they are not.
@@ -43,28 +50,29 @@ fn refusal_of(is_right_length: bool, sample: u8) -> u64 {
 
 // Makes turns until the unit has ended or waits, and tells how many.
 fn make_turns(
+    rt: &impl Print,
     u: Record,
     row: usize,
     sample: u8,
     ms: u32,
     text: &mut [u8; state::TEXT_BYTES],
     image: &[u8],
-) -> Record {
+) -> io::Result<Record> {
     let mut now = u;
     for n in 0..MOST_TURNS {
         if !goes_on(now, sample) {
-            return tell_ran(now, n, sample);
+            return tell_ran(rt, now, n, sample);
         }
-        now = make_turn(now, n, row, sample, ms, text, image);
+        now = make_turn(rt, now, n, row, sample, ms, text, image)?;
     }
-    tell_ran(now, MOST_TURNS, sample)
+    tell_ran(rt, now, MOST_TURNS, sample)
 }
 
 // How many turns were made, and how they have ended.
-fn tell_ran(u: Record, turns: u32, sample: u8) -> Record {
+fn tell_ran(rt: &impl Print, u: Record, turns: u32, sample: u8) -> io::Result<Record> {
     let k = end_of(u.core.running, goes_on(u, sample));
-    telling::say(forms::RUN, k, turns as u64, u.core.code as u64, 0);
-    u
+    telling::say(rt, forms::RUN, k, turns as u64, u.core.code as u64, 0)?;
+    Ok(u)
 }
 
 // How turns have ended, by whether the unit runs and whether it goes on.
@@ -91,6 +99,7 @@ fn goes_on(u: Record, sample: u8) -> bool {
 
 // The turn behind n others, told where that is asked for.
 fn make_turn(
+    rt: &impl Print,
     u: Record,
     n: u32,
     row: usize,
@@ -98,17 +107,24 @@ fn make_turn(
     ms: u32,
     text: &mut [u8; state::TEXT_BYTES],
     image: &[u8],
-) -> Record {
+) -> io::Result<Record> {
     let before = *text;
     let turned = drive::turn(u, text, sample, ms, u.core.motor.last.number, image);
-    tell_turn(row, u, before, n, turned);
-    turned.unit
+    tell_turn(rt, row, u, before, n, turned)?;
+    Ok(turned.unit)
 }
 
 // Writes the line of a turn where that is asked for: its number, the place in the text, the command taken, then what it leaves.
-fn tell_turn(row: usize, u: Record, text: [u8; state::TEXT_BYTES], n: u32, turned: Turned) {
+fn tell_turn(
+    rt: &impl Print,
+    row: usize,
+    u: Record,
+    text: [u8; state::TEXT_BYTES],
+    n: u32,
+    turned: Turned,
+) -> io::Result<()> {
     if row != forms::TIMELINE {
-        return;
+        return Ok(());
     }
     let at = u.core.flow.at;
     let command = fields::command_at(parts::first(&text, u.core.flow.length), at);
@@ -116,13 +132,14 @@ fn tell_turn(row: usize, u: Record, text: [u8; state::TEXT_BYTES], n: u32, turne
     let after = turned.unit.core.motor;
     let action = turned.action;
     tell_left(
+        rt,
         next(n as u64),
         next(at as u64),
         taken(before, command.len()),
         after,
         action,
         command,
-    );
+    )
 }
 
 // Which command a turn takes: 0 where none is left, 1 where it serves a wait, else 2.
@@ -140,7 +157,15 @@ fn next(n: u64) -> u64 {
 }
 
 // The same of what it leaves.
-fn tell_left(n: u64, at: u64, taken: u64, m: Motor, action: Action, command: &[u8]) {
+fn tell_left(
+    rt: &impl Print,
+    n: u64,
+    at: u64,
+    taken: u64,
+    m: Motor,
+    action: Action,
+    command: &[u8],
+) -> io::Result<()> {
     let direction = action.direction;
     let wait = m.wait;
     let numbers = [
@@ -154,7 +179,7 @@ fn tell_left(n: u64, at: u64, taken: u64, m: Motor, action: Action, command: &[u
         unit::direction_code(direction),
         action.number as u64,
     ];
-    telling::print(telling::TURN_LINE, &numbers, command);
+    telling::print(rt, telling::TURN_LINE, &numbers, command)
 }
 
 // What a run waits for, as `timeline` names it.

@@ -1,5 +1,6 @@
 // The fields of a line, parted by single spaces: where they are, and what each kind of field reads as.
-ghost use Rattle.std.specs.Prelude.{◌≤◌, ◌<◌};
+ghost use Rattle.std.specs.Prelude.{◌≡◌, ◌≤◌, ◌<◌, ◌≢◌, length, slice_index};
+ghost use Rattle.std.specs.List.{AllWithin};
 
 use digits::Operand;
 
@@ -49,8 +50,23 @@ pub(crate) fn past(s: &[u8], at: usize, byte: u8) -> usize {
     if s.len() < at {
         return usize::MAX;
     }
-    let end = bytes::scan::find(s, at, s.len(), byte);
+    let end = find(s, at, byte);
     if end < s.len() { end + 1 } else { usize::MAX }
+}
+
+// The place of the next such byte from a place on; the end where there is none.
+fn find(s: &[u8], from: usize, byte: u8) -> usize
+    requires { from ≤ length s.now }
+    ensures bounds { (from ≤ result) × (result ≤ length s.now) }
+    ensures passed { AllWithin (λ b. b ≢ byte) s.now from result }
+    ensures found { result < length s.now → slice_index s.now result ≡ byte }
+{
+    for i in from..s.len() {
+        if s[i] == byte {
+            return i;
+        }
+    }
+    s.len()
 }
 
 // The place behind the n-th such byte.
@@ -70,7 +86,7 @@ pub(crate) fn field_at(s: &[u8], at: usize) -> &[u8] {
 // What stands from a place on, up to such a byte.
 pub(crate) fn piece_at(s: &[u8], at: usize, byte: u8) -> &[u8] {
     let t = rest(s, at);
-    let end = bytes::scan::find(t, 0, t.len(), byte);
+    let end = find(t, 0, byte);
     &t[0..end]
 }
 

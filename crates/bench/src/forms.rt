@@ -119,7 +119,7 @@ pub(crate) fn read(line: &[u8]) -> Task {
     if fields::byte_at(line, 0) == b'/' {
         return blank_task(TYPED, 0, 0);
     }
-    if check::same(line, b"image empty") {
+    if line == b"image empty".as_slice() {
         return blank_task(EMPTY, 0, 0);
     }
     read_by(&TABLE, line)
@@ -158,7 +158,7 @@ fn read_by(table: &[u8], line: &[u8]) -> Task {
 fn row_of(table: &[u8], word: &[u8]) -> usize {
     let mut at = 0;
     for row in 0..ROWS {
-        if check::same(word, fields::field_at(table, at)) {
+        if word == fields::field_at(table, at) {
             return row;
         }
         at = fields::past(table, at, LF);
@@ -271,7 +271,7 @@ fn is_endless(table: &[u8], line: &[u8], t: Task) -> bool {
     if fields::byte_at(table, t.name) != b'N' {
         return false;
     }
-    check::same(fields::rest(line, t.at), b"endless")
+    fields::rest(line, t.at) == b"endless".as_slice()
 }
 
 // The same task by another row.

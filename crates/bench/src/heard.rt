@@ -1,6 +1,7 @@
 // `listen HEX`: what a listener from a fresh table has heard of each unit.
 use crate::{forms, telling};
 use listening::UnitRecord;
+use std::io;
 
 const UNITS: usize = 16;
 
@@ -8,12 +9,12 @@ const UNITS: usize = 16;
 const HEARD_BYTES: usize = 464;
 
 // Tells the sixteen lines.
-pub(crate) fn tell(bytes: &[u8]) {
+pub(crate) fn tell(rt: &impl Print, bytes: &[u8]) -> io::Result<()> {
     let l = listening::listen(listening::fresh(), bytes);
     let table = l.table;
     let mut out = [0u8; HEARD_BYTES];
     let n = add_all(&mut out, table);
-    telling::say_of(forms::LISTEN, 0, 0, 0, 0, parts::first(&out, n));
+    telling::say_of(rt, forms::LISTEN, 0, 0, 0, 0, parts::first(&out, n))
 }
 
 // Adds a line for each unit, parted by `; `.

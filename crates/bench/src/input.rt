@@ -3,7 +3,7 @@ ghost use Rattle.std.specs.Prelude.{◌≤◌, length};
 
 use crate::fields;
 use crate::fields::LF;
-use libc::STDIN_FILENO;
+use std::io::Read;
 
 const CR: u8 = 13;
 
@@ -37,18 +37,21 @@ pub(crate) fn begin() -> Reader {
     }
 }
 
-// Reads a line, which an LF or the end of input ends. The reads are counted down as lines are.
-pub(crate) fn read_line(from: Reader, chunk: &mut [u8], line: &mut [u8]) -> Reader {
+// Reads a line, which an LF or the end of input ends. The reads are counted as lines are.
+pub(crate) fn read_line(
+    from: Reader,
+    input: &mut impl Read,
+    chunk: &mut [u8],
+    line: &mut [u8],
+) -> Reader {
     let mut r = from;
     r.length = 0;
-    let mut turns = u64::MAX;
-    while turns > 0 {
-        turns -= 1;
+    for _ in 0..u64::MAX {
         r = take(r, chunk, line);
         if is_whole(r) {
             return r;
         }
-        r = read(r, chunk);
+        r = read(r, input, chunk);
     }
     r
 }
@@ -86,10 +89,9 @@ fn is_whole(r: Reader) -> bool {
     if r.ended { true } else { r.at <= r.got }
 }
 
-// Reads once.
-fn read(r: Reader, chunk: &mut [u8]) -> Reader {
-    let got = libc::read(STDIN_FILENO, chunk);
-    let n = io::count(got, chunk);
+// Reads once. A failed read counts as the end of input.
+fn read(r: Reader, input: &mut impl Read, chunk: &mut [u8]) -> Reader {
+    let n = input.read(chunk).unwrap_or(0);
     Reader {
         got: n,
         at: 0,

@@ -2,9 +2,12 @@
 //
 // In a row `#` is the next number in decimal, `~` in two hex digits, `^` in sixteen, and `_` passes one over. `*` is the bytes in
 // hex, `-` where there are none, and `$` the bytes as they are. Of `[one|another]` the next number says which, from 0 on.
+ghost use Rattle.std.specs.Prelude.{◌≡◌, ◌<◌, ◌≤◌, drop, false};
+ghost use Rattle.std.specs.Fmt.{digits, digit_glyph};
+
 use crate::fields::LF;
 use crate::{fields, state};
-use libc::STDOUT_FILENO;
+use std::io;
 
 // The most numbers of a row.
 const MOST_NUMBERS: usize = 18;
@@ -47,26 +50,39 @@ no unit
 turn #: at # [end|-|$], position #[?|], wait [none_|move #|endless #|away #|toward #|delay #|input ~], [act none|act up #|act down #]
 ";
 
+// Room for the digits of a number; the most that it has in hex.
+const DIGITS_ROOM: usize = 64;
+
+const HEX_MOST: usize = 16;
+
 // The longest answer is `store` of the longest image.
 const ANSWER_BYTES: usize = 6 + 2 * state::IMAGE_MOST + 1;
 
 // Writes a row with at most four numbers and no bytes.
-pub(crate) fn say(row: usize, a: u64, b: u64, c: u64, d: u64) {
-    say_of(row, a, b, c, d, b"");
+pub(crate) fn say(rt: &impl Print, row: usize, a: u64, b: u64, c: u64, d: u64) -> io::Result<()> {
+    say_of(rt, row, a, b, c, d, b"")
 }
 
 // The same with bytes.
-pub(crate) fn say_of(row: usize, a: u64, b: u64, c: u64, d: u64, bytes: &[u8]) {
+pub(crate) fn say_of(
+    rt: &impl Print,
+    row: usize,
+    a: u64,
+    b: u64,
+    c: u64,
+    d: u64,
+    bytes: &[u8],
+) -> io::Result<()> {
     let numbers = [a, b, c, d];
-    print(row, &numbers, bytes);
+    print(rt, row, &numbers, bytes)
 }
 
 // Writes a row, filled, in one write.
-pub(crate) fn print(row: usize, numbers: &[u64], bytes: &[u8]) {
+pub(crate) fn print(rt: &impl Print, row: usize, numbers: &[u64], bytes: &[u8]) -> io::Result<()> {
     let mut out = [0u8; ANSWER_BYTES];
     let n = fill(&ROWS, row, numbers, bytes, &mut out);
     let end = fields::least(n, ANSWER_BYTES);
-    io::write_all(STDOUT_FILENO, &out[0..end]);
+    rt.write_all(&out[0..end])
 }
 
 // Fills a row, up to and with its LF: how many bytes.
@@ -157,16 +173,48 @@ fn add_byte(out: &mut [u8], at: usize, byte: u8) -> usize {
 
 // Adds a number in decimal.
 fn add_decimal(out: &mut [u8], at: usize, n: u64) -> usize {
-    let mut digits = [0u8; 20];
-    let k = io::decimal(n, &mut digits);
-    add(out, at, &digits[..k])
+    let mut digits = [b'0'; DIGITS_ROOM];
+    let from = put_digits(n, 10, &mut digits);
+    add(out, at, &digits[from..])
 }
 
 // Adds a number in hex, with at least so many digits.
 fn add_hex(out: &mut [u8], at: usize, n: u64, width: usize) -> usize {
-    let mut digits = [0u8; 16];
-    let k = io::hex(n, width, &mut digits);
-    add(out, at, &digits[..k])
+    let mut digits = [b'0'; DIGITS_ROOM];
+    let from = put_digits(n, 16, &mut digits);
+    let most = DIGITS_ROOM - fields::least(width, HEX_MOST);
+    add(out, at, &digits[fields::least(from, most)..])
+}
+
+// Puts the digits of a number, in a base up to 16, at the end of the bytes: where they begin.
+fn put_digits(n: u64, base: u64, out: &mut [u8; DIGITS_ROOM]) -> usize
+    requires { (2 ≤ base) × (base ≤ 16) }
+    ensures bound { result ≤ 64 }
+    ensures value { drop result out.new ≡ digits base false n }
+{
+    let mut at = DIGITS_ROOM;
+    let mut left = n;
+    while at > 0 {
+        at -= 1;
+        out[at] = digit(left % base);
+        left /= base;
+        if left == 0 {
+            break;
+        }
+    }
+    at
+}
+
+// A digit below 16, in lower case.
+fn digit(d: u64) -> u8
+    requires { d < 16 }
+    ensures { result ≡ digit_glyph false d }
+{
+    if d < 10 {
+        b'0' + d as u8
+    } else {
+        b'a' - 10 + d as u8
+    }
 }
 
 // Adds bytes in hex; no bytes is `-`.

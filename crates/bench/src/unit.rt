@@ -3,10 +3,12 @@ use crate::forms::Task;
 use crate::{calls, course, fields, forms, state, telling};
 use answers::Found;
 use drive::{FeedAnswer, Last, Record, StartAnswer, TurnAnswer};
+use std::io;
 use turns::{Core, Direction};
 
 // Does an operation with the bytes that it gives, and with the image and the buffer that are lent, and tells its answer.
 pub(crate) fn perform(
+    rt: &impl Print,
     u: Record,
     t: Task,
     given: &[u8],
@@ -14,15 +16,15 @@ pub(crate) fn perform(
     buffer: &mut [u8],
     body: &mut [u8; state::BODY_BYTES],
     text: &mut [u8; state::TEXT_BYTES],
-) -> Record {
+) -> io::Result<Record> {
     if is_fed(t.row) {
-        return feed(u, t.row, given, image, buffer, body, text);
+        return feed(rt, u, t.row, given, image, buffer, body, text);
     }
     if is_made(t.row) {
-        return make(u, t, image, body, text);
+        return make(rt, u, t, image, body, text);
     }
-    calls::ask(t, given, image, buffer);
-    u
+    calls::ask(rt, t, given, image, buffer)?;
+    Ok(u)
 }
 
 // Whether an operation feeds the bytes that it gives.
@@ -49,34 +51,36 @@ fn is_made(row: usize) -> bool {
 
 // A start, turns, or the unit told.
 fn make(
+    rt: &impl Print,
     u: Record,
     t: Task,
     image: &[u8],
     body: &mut [u8; state::BODY_BYTES],
     text: &mut [u8; state::TEXT_BYTES],
-) -> Record {
+) -> io::Result<Record> {
     let row = t.row;
     match row {
-        forms::START => start(u, fields::byte_of(t.c), image, body, text),
-        forms::TURN => turn(u, t, text, image),
-        forms::UNIT => tell(u, text),
-        _ => course::run(u, t, text, image),
+        forms::START => start(rt, u, fields::byte_of(t.c), image, body, text),
+        forms::TURN => turn(rt, u, t, text, image),
+        forms::UNIT => tell(rt, u, text),
+        _ => course::run(rt, u, t, text, image),
     }
 }
 
 // `start N`
 fn start(
+    rt: &impl Print,
     u: Record,
     number: u8,
     image: &[u8],
     body: &mut [u8; state::BODY_BYTES],
     text: &mut [u8; state::TEXT_BYTES],
-) -> Record {
+) -> io::Result<Record> {
     let s = drive::start(number, image, body, text);
     let answer = s.answer;
     let k = start_code(answer);
-    telling::say(forms::START, k, 0, 0, 0);
-    started(k, u, s.unit)
+    telling::say(rt, forms::START, k, 0, 0, 0)?;
+    Ok(started(k, u, s.unit))
 }
 
 // The number of an answer among those of its row.
@@ -99,6 +103,7 @@ fn started(k: u64, u: Record, v: Record) -> Record {
 
 // Bytes fed in one call.
 fn feed(
+    rt: &impl Print,
     u: Record,
     row: usize,
     bytes: &[u8],
@@ -106,16 +111,17 @@ fn feed(
     buffer: &mut [u8],
     body: &mut [u8; state::BODY_BYTES],
     text: &mut [u8; state::TEXT_BYTES],
-) -> Record {
+) -> io::Result<Record> {
     let f = drive::feed(u, body, text, bytes, image, buffer);
     let answer = f.answer;
     tell_feed(
+        rt,
         row,
         feed_code(answer),
         f.consumed,
         parts::first(buffer, f.answered),
-    );
-    f.unit
+    )?;
+    Ok(f.unit)
 }
 
 // The number of an answer among those of its rows.
@@ -128,30 +134,42 @@ fn feed_code(answer: FeedAnswer) -> u64 {
 }
 
 // How many bytes were consumed, and the answer; of a typed line the answer alone, as text.
-fn tell_feed(row: usize, k: u64, consumed: usize, answered: &[u8]) {
+fn tell_feed(
+    rt: &impl Print,
+    row: usize,
+    k: u64,
+    consumed: usize,
+    answered: &[u8],
+) -> io::Result<()> {
     if row == forms::FEED {
-        return telling::say_of(row, k, consumed as u64, 0, 0, answered);
+        return telling::say_of(rt, row, k, consumed as u64, 0, 0, answered);
     }
     if k != 0 {
-        return telling::say(row, k, 0, 0, 0);
+        return telling::say(rt, row, k, 0, 0, 0);
     }
-    tell_packet(row, answered);
+    tell_packet(rt, row, answered)
 }
 
 // An answer as text; `-` where none came.
-fn tell_packet(row: usize, answered: &[u8]) {
+fn tell_packet(rt: &impl Print, row: usize, answered: &[u8]) -> io::Result<()> {
     let p = calls::read_either(answered);
     let found = p.found;
     let Found::OnePacket = found else {
-        return telling::say(row, 0, 0, 0, 0);
+        return telling::say(rt, row, 0, 0, 0, 0);
     };
     let k = if p.idle { 3 } else { 4 };
     let data = parts::part(answered, p.at, p.length);
-    telling::say_of(row, k, p.code as u64, (p.length != 0) as u64, 0, data);
+    telling::say_of(rt, row, k, p.code as u64, (p.length != 0) as u64, 0, data)
 }
 
 // `turn SAMPLE MS STEPS`
-fn turn(u: Record, t: Task, text: &mut [u8; state::TEXT_BYTES], image: &[u8]) -> Record {
+fn turn(
+    rt: &impl Print,
+    u: Record,
+    t: Task,
+    text: &mut [u8; state::TEXT_BYTES],
+    image: &[u8],
+) -> io::Result<Record> {
     let turned = drive::turn(
         u,
         text,
@@ -164,8 +182,8 @@ fn turn(u: Record, t: Task, text: &mut [u8; state::TEXT_BYTES], image: &[u8]) ->
     let direction = action.direction;
     let answer = turned.answer;
     let k = turn_code(answer, direction);
-    telling::say(forms::TURN, k, action.number as u64, 0, 0);
-    turned.unit
+    telling::say(rt, forms::TURN, k, action.number as u64, 0, 0)?;
+    Ok(turned.unit)
 }
 
 // The number of an answer among those of its row; of a turn that is made, by its direction.
@@ -188,16 +206,17 @@ pub(crate) fn direction_code(direction: Direction) -> u64 {
 }
 
 // `unit`
-fn tell(u: Record, text: &[u8]) -> Record {
+fn tell(rt: &impl Print, u: Record, text: &[u8]) -> io::Result<Record> {
     let c = u.core;
     let last = u.last;
     tell_core(
+        rt,
         c,
         is_number(last),
         number_of(last),
         parts::first(text, u.core.flow.length),
-    );
-    u
+    )?;
+    Ok(u)
 }
 
 // Whether an OEM frame was not refused.
@@ -217,7 +236,7 @@ fn number_of(last: Last) -> u64 {
 }
 
 // The numbers of a unit, in the order of their names, and its text.
-fn tell_core(c: Core, is_last: u64, last: u64, text: &[u8]) {
+fn tell_core(rt: &impl Print, c: Core, is_last: u64, last: u64, text: &[u8]) -> io::Result<()> {
     let known = c.motor.known as u64;
     let sample = c.motor.sample as u64;
     let numbers = [
@@ -240,7 +259,7 @@ fn tell_core(c: Core, is_last: u64, last: u64, text: &[u8]) {
         last,
         c.endless as u64,
     ];
-    telling::print(forms::UNIT, &numbers, text);
+    telling::print(rt, forms::UNIT, &numbers, text)
 }
 
 // A number of 32 bits as one of 64.

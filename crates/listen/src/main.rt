@@ -2,43 +2,44 @@
 // came to it alone, its answers, and its last status in two hex digits or `--`. 02, E10.
 #![tactic(auto)]
 
-use libc::{STDERR_FILENO, STDIN_FILENO, STDOUT_FILENO};
 use listening::UnitRecord;
+use std::io;
+use std::io::Read;
 
-// Hears all of the input, in the pieces that the reads give. Nothing says that the input ends: the loop counts its turns down, from
-// a number that no run uses up.
-fn main() {
-    let mut chunk = io::buffer();
+// The bytes of a read.
+const CHUNK_BYTES: usize = 4096;
+
+// Hears all of the input, in the pieces that the reads give. Nothing says that the input ends: the loop counts its turns, up to a
+// number that no run reaches.
+fn main(rt: HostRuntime) -> io::Result<()> {
+    let mut stdin = rt.stdin();
+    let mut chunk = [0u8; CHUNK_BYTES];
     let mut l = listening::fresh();
-    let mut turns = u64::MAX;
-    while turns > 0 {
-        turns -= 1;
-        let got = libc::read(STDIN_FILENO, &mut chunk);
-        if got < 0 {
-            io::write_all(STDERR_FILENO, b"listen: standard input cannot be read\n");
-            return;
-        }
-        let n = io::count(got, &chunk);
+    for _ in 0..u64::MAX {
+        let Ok(n) = stdin.read(&mut chunk) else {
+            return eprintln!(rt; "listen: standard input cannot be read");
+        };
         if n == 0 {
             let table = l.table;
-            print_all(table);
-            return;
+            return print_all(&rt, table);
         }
         let next = listening::listen(l, &chunk[..n]);
         l = next;
     }
+    Ok(())
 }
 
 // A line for each unit, in rising order.
-fn print_all(table: [UnitRecord; 16]) {
+fn print_all(rt: &impl Print, table: [UnitRecord; 16]) -> io::Result<()> {
     for i in 0..16usize {
-        print_one(i as u8 + 1, table[i]);
+        print_one(rt, i as u8 + 1, table[i])?;
     }
+    Ok(())
 }
 
 // A line, and its end.
-fn print_one(unit: u8, r: UnitRecord) {
+fn print_one(rt: &impl Print, unit: u8, r: UnitRecord) -> io::Result<()> {
     let l = listening::unit_line(unit, r);
-    io::write_all(STDOUT_FILENO, parts::first(&l.bytes, l.length));
-    io::write_all(STDOUT_FILENO, b"\n");
+    rt.write_all(parts::first(&l.bytes, l.length))?;
+    rt.write_all(b"\n")
 }

@@ -7,8 +7,12 @@ ghost use Rattle.std.specs.Prelude.{◌<◌, ◌≤◌, length};
 
 use digits::Operand;
 use drive::Record;
-use libc::{STDIN_FILENO, STDOUT_FILENO};
+use std::io;
+use std::io::Read;
 use turns::{Action, Direction};
+
+// The most bytes that are read; what follows them is left.
+const INPUT_BYTES: usize = 4096;
 
 const IMAGE_BYTES: usize = 4160;
 
@@ -46,12 +50,26 @@ struct Paced {
 }
 
 // Tells the digest of what standard input asks for.
-fn main() {
-    let mut input = io::buffer();
-    let n = io::read_full(STDIN_FILENO, &mut input);
+fn main(rt: HostRuntime) -> io::Result<()> {
+    let mut input = [0u8; INPUT_BYTES];
+    let n = read_full(&mut rt.stdin(), &mut input);
     let sum = pace(&input[..n]);
-    io::print_decimal(STDOUT_FILENO, sum as u64);
-    io::write_all(STDOUT_FILENO, b"\n");
+    println!(rt; "{sum}")
+}
+
+// Reads until the bytes are full, the input ends or a read fails: how many were read.
+fn read_full(input: &mut impl Read, bytes: &mut [u8]) -> usize
+    ensures { result ≤ length bytes.new }
+{
+    let mut done = 0;
+    while done < bytes.len() {
+        let n = input.read(&mut bytes[done..]).unwrap_or(0);
+        if n == 0 {
+            break;
+        }
+        done += n;
+    }
+    done
 }
 
 // The digest of what the input asks for.
