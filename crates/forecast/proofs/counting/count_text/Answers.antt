@@ -1,6 +1,5 @@
 -- `forecast::count_text` meets its contract. The invariant: going on from here counts the whole text (`Tallying`).
 -- Each command is a byte long at least, so what is left falls. Assumes nothing.
-use Prim.Native.Nat.{◌-◌}
 use mathlib.Core.Path.{sym, ◌∙◌}
 use native.Mathlib.Omega.{arith}
 use Rattle.commands.proofs.ReadingLaws.{read_step}
