@@ -51,19 +51,26 @@ jumped-there i text image c =
     (λ q. record { first = λ z. (refl, refl); there = λ z. text_kept (slot_text image i) (text-fits image i) })
     (λ q. record { first = λ z. absurd (false≢true z); there = λ z. absurd (false≢true z) })
 
--- "`e` makes the slot's text the current text .. and begins it"
-pub enters : {i sample ms steps : ℕ} {image : List ℕ} (v : Drive) → v.core.running ≡ true
-    → TakesCommand v (Jump i) sample (turn sample ms steps image) → Entered (slot_text image i) (after (turn sample ms steps image) v)
+entered_at : {i sample : ℕ} {call : Call} (v : Drive) → v.core.running ≡ true → TakesCommand v (Jump i) sample call
+    → (s ms steps : ℕ) (image : List ℕ) → call ≡ turn s ms steps image → Entered (slot_text image i) (after call v)
 unfolding command_taken
-enters {i} {sample} {ms} {steps} {image} v h (takes n m r) =
-    let x = turned v h sample ms steps image m (Jump i) n r in
+entered_at {i} {sample} v h (takes {ms = ms'} {steps = steps'} {image = image'} n m r) s ms steps image q =
+    let x = turned v h sample ms' steps' image' m (Jump i) n r in
     let c = ap (λ (u : Drive). u.core) x in
     let e = ap (λ (u : Drive). u.text) x in
-    let j = jumped-there i v.text image (with_motor (reported sample steps v.core.motor) v.core) in
+    let j = jumped-there i v.text image' (with_motor (reported sample steps' v.core.motor) v.core) in
+    let same : image' ≡ image = cc in
+    let entered : Entered (slot_text image' i) (after (turn sample ms' steps' image') v) =
     record {
       begins = λ g. let f = subst AtFirst (sym c) j.first g in record { running = g; first = f.0; none_open = f.1 };
       text = λ g. rw (c, e) (j.there (rw c at g));
-    }
+    } in
+    subst (λ (l : List ℕ). Entered (slot_text l i) (after (turn sample ms' steps' image') v)) same entered
+
+-- "`e` makes the slot's text the current text .. and begins it"
+pub enters : {i sample ms steps : ℕ} {image : List ℕ} (v : Drive) → v.core.running ≡ true
+    → TakesCommand v (Jump i) sample (turn sample ms steps image) → Entered (slot_text image i) (after (turn sample ms steps image) v)
+enters {i} {sample} {ms} {steps} {image} v h t = entered_at v h t sample ms steps image refl
 
 -- ---- a feed call of an idle unit
 

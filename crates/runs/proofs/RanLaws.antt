@@ -11,7 +11,7 @@ use Rattle.commands.specs.declared.Read.TheVariants.{At, End}
 use Rattle.flow.specs.declared.Flow.{Flow}
 use Rattle.flow.proofs.FlowLaws.{FlowOk}
 use Rattle.motor.specs.Motion.{reported}
-use Rattle.courses.specs.Meaning.{Course, ends, plain, loop, Step, step, commands_of, Runs, Steady, times, unrolled, cost, course_in, commands_in}
+use Rattle.courses.specs.Meaning.{Course, ends, plain, skip, jump, loop, Step, step, commands_of, Runs, Steady, times, unrolled, cost, course_in, commands_in}
 use Rattle.courses.proofs.CourseLaws.{text_course}
 use Rattle.courses.proofs.SteadyLaws.{costs, commands-append, commands-length, one_way, in_order}
 use Rattle.courses.proofs.StandLaws.{Open, Next, back, on, stands-now, stands-last, next-stands}
@@ -139,6 +139,8 @@ text-times (suc n) ds h = text_join ds (times n ds) h (text-times n ds h)
 steady-text : (c : Course) → Steady c → InText (unrolled c)
 unfolding unrolled
 steady-text ends s = tt
+steady-text (skip i c) s = elim s [ ]
+steady-text (jump i c) s = elim s [ ]
 steady-text (plain a c) s = (tt, steady-text c s)
 steady-text (loop body n c) s =
     let round = unrolled body ++ (LoopEnd n ∷ []) in
