@@ -8,10 +8,9 @@ use Rattle.host.proofs.LineLaws.{line_once}
 use Rattle.older.proofs.TranslateLaws.{translated_once}
 use Rattle.frames.proofs.Once.{heard_once}
 use Rattle.drive.proofs.OnceLaws.{started_once, fed_once, turned_once}
-use Rattle.claims.proofs.one_answer.Statement.{statement}
-use Rattle.claims.proofs.one_answer.Tie as tie
+use Rattle.claims.proofs.one_answer.Goals as goal
 
-returns : tie.Need-returns
+pub returns : goal.returns
 returns c =
     record {
       put = λ buffer at bytes r s x y. put_once;
@@ -27,6 +26,3 @@ returns c =
       fed = λ u body text bytes image buffer d e. fed_once d e;
       turned = λ u text sample ms steps image r s x y. turned_once u text sample ms steps image;
     }
-
-pub one-answer-spec : {M : Type 1} → statement M
-one-answer-spec = tie.close (tie.spec returns)

@@ -2,10 +2,9 @@
 use Rattle.claims.proofs.BodyLaws.{each-body}
 use Rattle.claims.proofs.TurnLaws.{start-defaults, starts-good, starts-held, feeds, serves, idles, idle, waits, commands, answers, levels}
 use Rattle.claims.proofs.SpeedLaws as speed
-use Rattle.claims.proofs.effect_claims.Statement.{statement}
-use Rattle.claims.proofs.effect_claims.Tie as tie
+use Rattle.claims.proofs.effect_claims.Goals as goal
 
-returns : tie.Need-returns
+pub returns : goal.returns
 returns c = record {
   defaults = start-defaults;
   starts-good = starts-good;
@@ -21,6 +20,3 @@ returns c = record {
   levels = levels;
   speed = record { sets = speed.sets; stays = speed.stays; only = speed.only; busy = speed.busy; told = speed.told };
 }
-
-pub effect-claims-spec : {M : Type 1} → statement M
-effect-claims-spec = tie.close (tie.spec returns)

@@ -5,8 +5,7 @@ use mathlib.Core.Bool.{false, not, true≢false}
 use lib.Dec.{T}
 use lib.Ieee.{Float, nan, inf, fin, is_nan, ne}
 use borrow.Author.Rules.{rules}
-use Rattle.bench.proofs.calls.bits_of.Statement.{statement}
-use Rattle.bench.proofs.calls.bits_of.Tie as tie
+use Rattle.bench.proofs.calls.bits_of.Goals as goal
 
 equals_itself : (x : Float) → ne x x ≡ false → T (not (is_nan x))
 unfolding ne is_nan
@@ -14,14 +13,11 @@ equals_itself nan h = absurd (true≢false h)
 equals_itself (inf s) h = tt
 equals_itself (fin s m e) h = tt
 
-float-to-bits-result : tie.Need-float-to-bits-result
-float-to-bits-result c = equals_itself c.before.args.x c.if1.false
+pub float_to_bits-result : goal.float_to_bits-result
+float_to_bits-result c = equals_itself c.args.x c.if-x.false
 
-returns : tie.Need-returns
-returns c = search rules
+pub returns-then-x : goal.returns-then-x
+returns-then-x c = search rules
 
-returns-2 : tie.Need-returns-2
-returns-2 c = search rules
-
-pub bits-of-spec : {M : Type 1} → statement M
-bits-of-spec = tie.close (tie.spec float-to-bits-result returns returns-2)
+pub returns-else-x : goal.returns-else-x
+returns-else-x c = search rules
