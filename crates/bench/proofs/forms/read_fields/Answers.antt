@@ -1,6 +1,5 @@
 -- `bench::forms::read_fields` is safe and ends: it goes over the fields of a form.
 -- Assumes nothing.
-use Prim.Native.Nat.{◌-◌}
 use borrow.Author.Rules.{rules}
 use Rattle.bench.proofs.forms.read_fields.Goals as goal
 
