@@ -9,21 +9,21 @@ returns-then-not-is_unit c = rw (← c.is_unit.ensures, c.if-not-is_unit.true) (
 
 pub returns-in-Good : goal.returns-in-Good
 unfolding start_of
-returns-in-Good c = 
+returns-in-Good c =
     let u = c.is_unit in
     rw (← u.ensures, c.if-not-is_unit.false, ← by_check _ _ _ _, ← c.check_older-checked.ensures, c.in-Good.is)
     (c.start_unit.ensures _)
 
 pub returns-in-WrongLength : goal.returns-in-WrongLength
 unfolding start_of
-returns-in-WrongLength c = 
+returns-in-WrongLength c =
     let u = c.is_unit in
     rw (← u.ensures, c.if-not-is_unit.false, ← by_check _ _ _ _, ← c.check_older-checked.ensures, c.in-WrongLength.is)
     (c.refuse_start-in-WrongLength.ensures _ _)
 
 pub returns-in-Bad : goal.returns-in-Bad
 unfolding start_of
-returns-in-Bad c = 
+returns-in-Bad c =
     let u = c.is_unit in
     rw (← u.ensures, c.if-not-is_unit.false, ← by_check _ _ _ _, ← c.check_older-checked.ensures, c.in-Bad.is)
     (c.refuse_start-in-Bad.ensures _ _)

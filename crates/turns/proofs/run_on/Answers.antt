@@ -9,10 +9,10 @@ returns-then-is_free c = simp (c.take_next.ensures, c.if-is_free.true, ← c.is_
 pub returns : goal.returns
 unfolding running
 returns c = simp (
-      c.stay.ensures,
-      c.move_on.ensures,
-      c.serve.ensures,
-      c.flag_of.ensures,
-      c.if-is_free.false,
-      ← c.is_free.ensures,
-    )
+  c.stay.ensures,
+  c.move_on.ensures,
+  c.serve.ensures,
+  c.flag_of.ensures,
+  c.if-is_free.false,
+  ← c.is_free.ensures,
+)

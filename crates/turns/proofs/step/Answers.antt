@@ -10,10 +10,10 @@ returns-then-c c = simp (c.run_on.ensures, c.if-c.true, c.set_motor-d.ensures, c
 pub returns : goal.returns
 unfolding step_of
 returns c = simp (
-      c.stay.ensures,
-      c.set_motor.ensures,
-      c.resume.ensures,
-      c.if-c.false,
-      c.set_motor-d.ensures,
-      c.report.ensures,
-    )
+  c.stay.ensures,
+  c.set_motor.ensures,
+  c.resume.ensures,
+  c.if-c.false,
+  c.set_motor-d.ensures,
+  c.report.ensures,
+)

@@ -7,16 +7,16 @@ returns-then-depth-eq0 c = simp (c.left_of-then-depth-eq0.ensures, c.left_of.ens
 
 pub returns-then-depth-lt4 : goal.returns-then-depth-lt4
 returns-then-depth-lt4 c = simp (
-      c.left_of-then-depth-lt4-2.ensures,
-      c.left_of-then-depth-lt4.ensures,
-      lt-leb _ _ c.if-depth-lt4.true,
-      ne_eqb _ _ c.if-depth-eq0.false,
-    )
+  c.left_of-then-depth-lt4-2.ensures,
+  c.left_of-then-depth-lt4.ensures,
+  lt-leb _ _ c.if-depth-lt4.true,
+  ne_eqb _ _ c.if-depth-eq0.false,
+)
 
 pub returns : goal.returns
 returns c = simp (
-      c.left_of-3.ensures,
-      c.left_of-2.ensures,
-      le-leb _ _ c.if-depth-lt4.false,
-      ne_eqb _ _ c.if-depth-eq0.false,
-    )
+  c.left_of-3.ensures,
+  c.left_of-2.ensures,
+  le-leb _ _ c.if-depth-lt4.false,
+  ne_eqb _ _ c.if-depth-eq0.false,
+)

@@ -22,11 +22,11 @@ returns-in-SetPosition c = simp (c.set_motor.ensures, c.place_at.ensures, c.in-S
 pub returns-in-Home : goal.returns-in-Home
 unfolding acted
 returns-in-Home c = simp (
-      c.set_motor-in-Home.ensures,
-      c.home.ensures,
-      c.flag_of.ensures,
-      c.in-Home.is,
-    )
+  c.set_motor-in-Home.ensures,
+  c.home.ensures,
+  c.flag_of.ensures,
+  c.in-Home.is,
+)
 
 pub returns-in-Set : goal.returns-in-Set
 unfolding acted

@@ -5,20 +5,20 @@ use Rattle.turns.proofs.taking.take_command.Goals as goal
 pub returns-in-LoopBegin : goal.returns-in-LoopBegin
 unfolding command_taken
 returns-in-LoopBegin c = simp (
-      c.stay.ensures,
-      c.flow_on.ensures,
-      c.begin_loop.ensures,
-      c.in-LoopBegin.is,
-    )
+  c.stay.ensures,
+  c.flow_on.ensures,
+  c.begin_loop.ensures,
+  c.in-LoopBegin.is,
+)
 
 pub returns-in-LoopEnd : goal.returns-in-LoopEnd
 unfolding command_taken
 returns-in-LoopEnd c = simp (
-      c.stay-in-LoopEnd.ensures,
-      c.flow_on-in-LoopEnd.ensures,
-      c.end_loop.ensures,
-      c.in-LoopEnd.is,
-    )
+  c.stay-in-LoopEnd.ensures,
+  c.flow_on-in-LoopEnd.ensures,
+  c.end_loop.ensures,
+  c.in-LoopEnd.is,
+)
 
 pub returns-in-Skip : goal.returns-in-Skip
 unfolding command_taken

@@ -9,17 +9,17 @@ returns-in-At c = simp (c.take_command.ensures, c.in-At.is, ← c.read_command-r
 pub returns-in-Bad : goal.returns-in-Bad
 unfolding read_taken
 returns-in-Bad c = simp (
-      c.stay.ensures,
-      c.go_astray.ensures,
-      c.in-Bad.is,
-      ← c.read_command-r.ensures,
-    )
+  c.stay.ensures,
+  c.go_astray.ensures,
+  c.in-Bad.is,
+  ← c.read_command-r.ensures,
+)
 
 pub returns-in-End : goal.returns-in-End
 unfolding read_taken
 returns-in-End c = simp (
-      c.stay-in-End.ensures,
-      c.end_run.ensures,
-      c.in-End.is,
-      ← c.read_command-r.ensures,
-    )
+  c.stay-in-End.ensures,
+  c.end_run.ensures,
+  c.in-End.is,
+  ← c.read_command-r.ensures,
+)
