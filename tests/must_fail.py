@@ -28,7 +28,7 @@ class Edit:
 
     @property
     def tried(self):
-        """Where `rt` tried it: its log, its verdict and what it said."""
+        """Where its log, its verdict and what was said of it stand, once it was tried (tests/trying.py), each with its ending."""
         return ROOT / "target/must-fail" / self.crate / self.file.stem
 
     def names(self):
@@ -82,15 +82,35 @@ def touches(program, function):
     return False
 
 
+# an error that only follows from another one
+FOLLOWS = re.compile(r"\d+ declarations? that depends? on ")
+# a proof that cites what the edit took away: that shows nothing
+NAMES = re.compile(r"is not in scope|has no field|has no `|is no name")
+
+
 def refusals(log, crate):
-    """What a log says is refused on its own, with the first line of the reason: errors that only follow from another are left out."""
+    """What a log says is refused on its own, with the reasons. Errors that only follow from another are left out."""
     found = {}
-    for file, law, reason in re.findall(r"^\S*?/(?:proofs|specs|src)/(\S+?):\d+:\d+: error: (?:`([^`]+)`: )?(.*)", log, re.M):
-        if "was not admitted" not in reason:
-            of_function = file.endswith("/Proof.antt")
-            name = file.removesuffix("/Proof.antt").replace("/", "::") if of_function else f"{file.removesuffix('.antt')}.{law}"
-            found.setdefault(name, reason)
-    # a proof that the prover itself looks for, and does not find; not where something that is called is not proved
-    for function, reason in re.findall(rf"^fn {crate}::(\S+): no proof: (.* does not close .*)", log, re.M):
-        found.setdefault(function, reason)
+    for file, goal, reason in re.findall(r"^(?:\./)?((?:proofs|specs|src)/\S+?):\d+:\d+: error: (?:`([^`]+)`: )?(.*)", log, re.M):
+        if not FOLLOWS.match(reason):
+            function = re.fullmatch(r"proofs/(.*)/(?:Answers|Invariants|Proof)\.antt", file)
+            law = f"{file.partition('/')[2].removesuffix('.antt')}.{goal}" if goal else file
+            found.setdefault(function[1].replace("/", "::") if function else law, []).append(reason)
+    # goals that the prover looks for itself, and does not prove: they stand above the line of their function
+    notes = []
+    for note, function, verdict in re.findall(rf"^(?:note: src/\S+: (it is not proved .*)|fn {crate}::(\S+?): (.*))", log, re.M):
+        if note:
+            notes.append(note)
+        else:
+            if notes and verdict != "proved":
+                found.setdefault(function, []).extend(notes)
+            notes = []
     return found
+
+
+def facts(reasons):
+    """The reasons that are a fact that fails. Where a name is gone, a goal that is called after a condition may only be called otherwise:
+    then its line counts where it knows values that make it false."""
+    renamed = any(NAMES.search(reason) for reason in reasons)
+    hangs = re.compile(r"^it is not proved .*\(`[^`]*-(?:then|else)-[^`]*`\)(?!.*at which this goal is false)")
+    return [reason for reason in reasons if not NAMES.search(reason) and not (renamed and hangs.search(reason))]
