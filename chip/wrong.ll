@@ -7,6 +7,13 @@ start:
   ret i64 %v0
 }
 
+define internal i64 @"wrong_number_of_an_address"(ptr noundef %a0, i64 noundef %a1) #0 {
+start:
+  %v0 = ptrtoaddr ptr %a0 to i64
+  %v1 = sub i64 %v0, %a1
+  ret i64 %v1
+}
+
 define internal i64 @"wrong_read_as_a_number"(ptr noundef %a0) #0 {
 start:
   %r0 = alloca [16 x i8], align 8
@@ -168,4 +175,13 @@ start:
   %v3 = getelementptr inbounds nuw i8, ptr %v1, i64 %v2
   %v4 = load i8, ptr %v3, align 1
   ret i8 %v4
+}
+
+define internal i1 @"right_distance"(ptr noundef %a0, ptr noundef %a1, i64 noundef %a2) #0 {
+start:
+  %v0 = ptrtoaddr ptr %a0 to i64
+  %v1 = ptrtoaddr ptr %a1 to i64
+  %v2 = sub i64 %v0, %v1
+  %v3 = icmp ult i64 %v2, %a2
+  ret i1 %v3
 }
