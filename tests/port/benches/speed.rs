@@ -1,7 +1,7 @@
 //! What the library costs beside the independent model, both built for release, as a table of ratios.
 //!
 //! Each row is timed by two programs that repeat the same work, started in turns with the same input; the digests that they
-//! write must be the same. Feed and turn: the proved program `target/bin/pace`. Line check, image check and ramp: `target/calls`,
+//! write must be the same. Feed and turn: the proved program `crates/pace/out/pace`. Line check, image check and ramp: `target/calls`,
 //! which is `calls.c` linked with the archive. Beside both the model: this program again. Of each the least of all rounds counts,
 //! less the time of a run that repeats nothing. A ratio above its target is marked. On a processor other than x86-64 what is timed
 //! is the same proved code compiled for that one (`tests/native`).
@@ -24,7 +24,7 @@ use drive_model::pace::{self, Mode};
 use drive_model::random::{Lines, Random};
 
 const ON: &str = concat!(env!("CARGO_MANIFEST_DIR"), "/../on-x86-64");
-const PACE_PROGRAM: &str = concat!(env!("CARGO_MANIFEST_DIR"), "/../../target/bin/pace");
+const PACE_PROGRAM: &str = concat!(env!("CARGO_MANIFEST_DIR"), "/../../crates/pace/out/pace");
 const CALLS: &str = concat!(env!("CARGO_MANIFEST_DIR"), "/../../target/calls");
 
 /// Both for this processor, in the order of the two above.

@@ -13,8 +13,8 @@ use drive_model::random::{Lines, Random};
 
 /// What runs a program for x86-64 on any processor.
 const ON: &str = concat!(env!("CARGO_MANIFEST_DIR"), "/../on-x86-64");
-/// The program that `rt check` proves and writes.
-const PACE: &str = concat!(env!("CARGO_MANIFEST_DIR"), "/../../target/bin/pace");
+/// The program that `rt ci` proves and writes.
+const PACE: &str = concat!(env!("CARGO_MANIFEST_DIR"), "/../../crates/pace/out/pace");
 /// Calls of one process.
 const BATCH: usize = 10_000;
 
