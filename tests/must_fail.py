@@ -91,6 +91,8 @@ NAMES = re.compile(r"is not in scope|has no field|has no `|is no name")
 def refusals(log, crate):
     """What a log says is refused on its own, with the reasons. Errors that only follow from another are left out."""
     found = {}
+    # an error may go on in lines that are set in
+    log = re.sub(r"\n  +(?=\S)", " ", log)
     for file, goal, reason in re.findall(r"^(?:\./)?((?:proofs|specs|src)/\S+?):\d+:\d+: error: (?:`([^`]+)`: )?(.*)", log, re.M):
         if not FOLLOWS.match(reason):
             function = re.fullmatch(r"proofs/(.*)/(?:Answers|Invariants|Proof)\.antt", file)

@@ -52,7 +52,7 @@ barred_read (amiss k) = false
 abbrev pub bounded : ℕ → Counted
 bounded k = cond (leb k most_counted) (Commands k) TooMany
 
--- of a text: "a loop costs 1 + n × (body + 1)" is `commandsIn`
+-- of a text: "a loop costs 1 + n × (body + 1)" is `commands_in`
 unfoldable pub count_text : List ℕ → Counted
 count_text t = cond (barred_read (bare_from t 0)) Letter (bounded (commands_in t))
 

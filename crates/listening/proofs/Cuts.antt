@@ -1,4 +1,4 @@
--- Laws of `listenOf`: one byte more is one step, and cut bytes give what the whole gives.
+-- Laws of `listen_of`: one byte more is one step, and cut bytes give what the whole gives.
 -- Assumes nothing.
 use mathlib.Core.Path.{◌≡◌, refl, ◌∙◌, ap}
 use Prim.Native.Nat.{ℕ, zero, suc, ◌+◌, ◌<◌, ◌≤◌}

@@ -85,7 +85,7 @@ operand_places (carries p c ∷ is) = operand_places is
 operand_places (lacks p ∷ is) = operand_places is
 operand_places (unfit p c ∷ is) = p ∷ operand_places is
 
--- "a structure fault" (`faultPlaces`) and the count are of all that stands there, good or bad
+-- "a structure fault" (`fault_places`) and the count are of all that stands there, good or bad
 abbrev pub item_placed : Item → Placed
 item_placed (carries p c) = placed p c
 item_placed (lacks p) = placed p (stand_in 0)
