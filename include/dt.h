@@ -6,8 +6,8 @@
  * The archive: for a Cortex-M, `chip/dist` writes target/dist/ with a libdt.a for each chip (docs/CHIP.md says how to link it,
  * and its stack). For x86-64 (ELF objects, the System V calling convention), `chip/archive` proves the code and writes
  * target/libdt.a, and `examples/run` shows it at work; examples/firmware.c is to be copied. The one for x86-64 needs no C
- * library and leaves no symbol undefined: it links with -nostdlib, and its deepest call takes 520 bytes of stack (docs/SPEED.md
- * says how that was read off). In each archive dt_count is an object of its own: a program that never calls it links none of
+ * library and leaves no symbol undefined: it links with -nostdlib, and its deepest call takes 392 bytes of stack (docs/SPEED.md
+ * says how that was seen). In each archive dt_count is an object of its own: a program that never calls it links none of
  * it. C and C++ may include this header.
  *
  * What the numbers mean is said in docs/MANUAL.md.
