@@ -9,7 +9,7 @@ import must_fail
 
 CRATES = must_fail.ROOT / "crates"
 PARTS = ("src", "specs", "proofs")
-DEPENDS = {name: words.split() for name, words in re.findall(r"^(\w+)(?: staticlib)?:(.*)", (must_fail.ROOT / "crates.txt").read_text(), re.M)}
+DEPENDS = {name: words.split() for name, words in re.findall(r"^(\w+):(.*)", (must_fail.ROOT / "crates.txt").read_text(), re.M)}
 
 
 def below(crate):
