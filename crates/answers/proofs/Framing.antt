@@ -1,24 +1,23 @@
 -- Laws of a packet of either framing that is read: what its frame, its status and its data are, from the tests of single bytes and to them.
 -- Assumes nothing.
-use Prim.Native.Nat.{ℕ, suc, ◌+◌, ◌-◌, ◌%◌, ◌/◌, ◌≤◌, ◌<◌}
+use Prim.Native.Nat.{ℕ, suc, ◌+◌, ◌-◌, ◌≤◌, ◌<◌}
 use mathlib.Core.Path.{◌≡◌, refl, sym, ap, ◌∙◌}
 use mathlib.Core.List.{List, [], ◌∷◌, ◌++◌}
-use mathlib.Core.Bool.{Bool, true, false, ◌&&◌, and-true, and-false}
+use mathlib.Core.Bool.{Bool, true, false, ◌&&◌, and-false}
 use native.Mathlib.Omega.{arith}
 use native.Mathlib.Numerals.{add-one}
 use lib.ListN.{length, get_or, take, drop, length-take, length-drop, take-append-drop, drop_of_length-le}
 use lib.Seq.{drop-cons, drop-drop, drop-length, get_or-append-add}
-use lib.Dec.{eqb}
-use borrow.Author.Tests.{le-leb, lt-leb, eq-eqb, ne_eqb, eqb-true, eqb-false}
+use borrow.Author.Tests.{le-leb, lt-leb}
 use Rattle.parts.specs.Letters.{stx, etx, cr, lf, slash}
 use Rattle.parts.specs.Parts.{part, same}
 use Rattle.parts.proofs.Laws.{same_is, same_self}
 use Rattle.answers.specs.Packet.{host_address, packet_around, tail, packet, data_at, around_data, most_data}
 use Rattle.answers.specs.Reading.{status_in, data_in, framed_by, framed, one_by, inside_by}
 use Rattle.answers.specs.Room.{Roomy}
-use Rattle.answers.specs.Reading.{printable, all_printable, good_data, good_status, bit}
+use Rattle.answers.specs.Reading.{printable, all_printable, good_data, good_status}
 use Rattle.answers.specs.Oem.{oem_tail, oem_packet, around_oem}
-use Rattle.answers.specs.declared.Inside.TheVariants.{StatusData, Neither}
+use Rattle.std.proofs.Common.{Some, None}
 use Rattle.answers.proofs.Writing.{length-frame}
 
 -- a test that cannot be met fails
@@ -83,10 +82,11 @@ module _ {make : ℕ → List ℕ → List ℕ} {around start : ℕ} {back : ℕ
     pub framed-second : get_or s 1 0 ≡ host_address
     framed-second = ap (λ (l : List ℕ). get_or l 1 0) framed_as
 
-    pub framed-last : (k : ℕ) → get_or s (length s - (around - data_at) + k) 0 ≡ get_or (back (status_in s) (data_in around s)) k 0
-    framed-last k =
+    pub framed-last : (i k : ℕ) → i ≡ length s - (around - data_at) + k
+        → get_or s i 0 ≡ get_or (back (status_in s) (data_in around s)) k 0
+    framed-last i k e =
         let front : List ℕ = start ∷ host_address ∷ status_in s ∷ data_in around s in
-        let at : length s - (around - data_at) + k ≡ length front + k = omega (arith, framed-long, g.long (status_in s) (data_in around s)) in
+        let at : i ≡ length front + k = omega (arith, framed-long, g.long (status_in s) (data_in around s)) in
         ap (λ (i : ℕ). get_or s i 0) at
         ∙ ap (λ (l : List ℕ). get_or l (length front + k) 0) framed_as
         ∙ get_or-append-add front (back (status_in s) (data_in around s)) k 0
@@ -95,40 +95,25 @@ module _ {make : ℕ → List ℕ → List ℕ} {around start : ℕ} {back : ℕ
   pub roomy : (s : List ℕ) {a : Bool} → a ≡ framed_by make around s → Roomy a around s
   roomy s e = record { head = omega (arith, g.long 0 []); whole = λ f. omega (arith, framed-long s (sym e ∙ f)) }
 
--- the bytes of the plain frame, tested one by one
-is_framed : (s : List ℕ) → around_data ≤ length s → get_or s 0 0 ≡ slash → get_or s 1 0 ≡ host_address → get_or s (length s - 3) 0 ≡ etx
-    → get_or s (length s - 3 + 1) 0 ≡ cr → get_or s (length s - 3 + 2) 0 ≡ lf → framed s ≡ true
+-- the bytes of the plain frame
+pub is_framed : (s : List ℕ) → around_data ≤ length s → get_or s 0 0 ≡ slash → get_or s 1 0 ≡ host_address → get_or s (length s - 3) 0 ≡ etx
+    → get_or s (length s - 2) 0 ≡ cr → get_or s (length s - 1) 0 ≡ lf → true ≡ framed s
 unfolding framed_by packet data_in
 is_framed s h a b x y z =
+    let second : length s - 3 + 1 ≡ length s - 2 = omega arith in
+    let third : length s - 3 + 2 ≡ length s - 1 = omega arith in
     let end : length s - 3 + 3 ≡ length s = omega arith in
-    let last : drop (length s - 3) s ≡ tail = three s (length s - 3) (omega arith) ∙ rw (x, y, z, end, drop-length s) in
+    let last : drop (length s - 3) s ≡ tail = three s (length s - 3) (omega arith) ∙ rw (second, third, x, y, z, end, drop-length s) in
     let whole : s ≡ packet (status_in s) (data_in around_data s) = split 3 s h ∙ rw (a, b, last) in
-    ap (λ (l : List ℕ). same s l) (sym whole) ∙ same_self s
+    sym (ap (λ (l : List ℕ). same s l) (sym whole) ∙ same_self s)
 
--- where all bytes of the frame but the last are right, the last tells
-pub by_last : (s : List ℕ) → around_data ≤ length s → get_or s 0 0 ≡ slash → get_or s 1 0 ≡ host_address → get_or s (length s - 3) 0 ≡ etx
-    → get_or s (length s - 3 + 1) 0 ≡ cr → eqb (get_or s (length s - 3 + 2) 0) lf ≡ framed s
-by_last s h a b x y = go (eqb (get_or s (length s - 3 + 2) 0) lf) refl
-  where
-    go : (t : Bool) → eqb (get_or s (length s - 3 + 2) 0) lf ≡ t → t ≡ framed s
-    go true e = sym (is_framed s h a b x y (eqb-true _ _ e))
-    go false e = fails (framed s) (λ f. eqb-false _ _ e (framed-last plain s f 2))
-
--- ---- the status
-
--- where bits 7 and 4 are clear, bit 6 tells
-pub by_bit : (n : ℕ) → (n / 128 % 2 ≡ 1 → ⊥) → (n / 16 % 2 ≡ 1 → ⊥) → bit 6 n ≡ good_status n
-unfolding good_status
-by_bit n a b = sym (rw (ne_eqb (n / 128 % 2) 1 a, ne_eqb (n / 16 % 2) 1 b, and-true))
-
--- where one of them is set, the status is none
-pub bit_7_set : (n : ℕ) → n / 128 % 2 ≡ 1 → false ≡ good_status n
-unfolding good_status
-bit_7_set n a = rw (eq-eqb (n / 128 % 2) 1 a, and-false)
-
-pub bit_4_set : (n : ℕ) → n / 16 % 2 ≡ 1 → false ≡ good_status n
-unfolding good_status
-bit_4_set n a = rw (eq-eqb (n / 16 % 2) 1 a, and-false, and-false)
+-- a slice whose bytes are not those is none
+pub not_framed : (s : List ℕ) → (around_data ≤ length s → get_or s 0 0 ≡ slash → get_or s 1 0 ≡ host_address → get_or s (length s - 3) 0 ≡ etx
+    → get_or s (length s - 2) 0 ≡ cr → get_or s (length s - 1) 0 ≡ lf → ⊥) → false ≡ framed s
+not_framed s h = fails (framed s) (λ f.
+    let long = framed-long plain s f in
+    h (omega arith) (framed-first plain s f) (framed-second plain s f) (framed-last plain s f (length s - 3) 0 (omega arith))
+    (framed-last plain s f (length s - 2) 1 (omega arith)) (framed-last plain s f (length s - 1) 2 (omega arith)))
 
 -- ---- the data
 
@@ -136,28 +121,25 @@ printable_off : (s : List ℕ) (i : ℕ) → i < length s → all_printable (dro
 unfolding all_printable
 printable_off s i h = rw (add-one, drop-cons s i 0)
 
-module _ (s : List ℕ) (i : ℕ) (short : length s ≤ most_data) (e : all_printable s ≡ all_printable (drop i s)) where
+-- where there are few bytes, they tell
+module _ (s : List ℕ) (i : ℕ) (e : all_printable s ≡ all_printable (drop i s)) where
   -- one byte more
-  pub data_more : i < length s → 32 ≤ get_or s i 0 → get_or s i 0 ≤ 126 → all_printable s ≡ all_printable (drop (i + 1) s)
-  data_more h l g = e ∙ printable_off s i h ∙ rw (le-leb _ _ l, le-leb _ _ g)
+  pub data_more : i < length s → printable (get_or s i 0) ≡ true → all_printable s ≡ all_printable (drop (i + 1) s)
+  data_more h l = e ∙ printable_off s i h ∙ rw l
 
-  -- a byte below 20 hex, and one above 7E
-  pub data_below : i < length s → get_or s i 0 < 32 → false ≡ good_data s
+  -- a byte that data may not have
+  pub data_other : length s ≤ most_data → i < length s → printable (get_or s i 0) ≡ false → false ≡ good_data s
   unfolding good_data
-  data_below h l = sym (rw (le-leb _ _ short) (e ∙ printable_off s i h ∙ rw (lt-leb _ _ l)))
-
-  pub data_above : i < length s → 32 ≤ get_or s i 0 → 126 < get_or s i 0 → false ≡ good_data s
-  unfolding good_data
-  data_above h l g = sym (rw (le-leb _ _ short) (e ∙ printable_off s i h ∙ rw (le-leb _ _ l, lt-leb _ _ g)))
+  data_other short h l = sym (rw (le-leb _ _ short) (e ∙ printable_off s i h ∙ rw l))
 
   -- no byte left
-  pub data_good : length s ≤ i → true ≡ good_data s
+  pub data_good : length s ≤ most_data → length s ≤ i → true ≡ good_data s
   unfolding good_data all_printable
-  data_good h = sym (rw (le-leb _ _ short) (e ∙ rw (drop_of_length-le s h)))
+  data_good short h = sym (rw (le-leb _ _ short) (e ∙ rw (drop_of_length-le s h)))
 
 pub data_long : (s : List ℕ) → most_data < length s → false ≡ good_data s
 unfolding good_data
-data_long s h = sym (rw (lt-leb _ _ h))
+data_long s h = rw (lt-leb _ _ h)
 
 -- ---- the whole
 
@@ -175,7 +157,7 @@ module _ (s : List ℕ) (around : ℕ) where
   data_length h g = simp (length-take, length-drop) (omega arith)
 
   pub inside_is : {a b c : Bool} → Roomy a around s → a ≡ true → b ≡ good_status (status_in s) → b ≡ true → c ≡ good_data lent → c ≡ true
-      → StatusData (status_in s) (length s - around) ≡ inside_by a around s
+      → Some (status_in s, length s - around) ≡ inside_by a around s
   unfolding inside_by one_by
   inside_is r f g h x y =
       let status_so : good_status (status_in s) ≡ true = sym g ∙ h in
@@ -183,14 +165,14 @@ module _ (s : List ℕ) (around : ℕ) where
       rw (f, status_so, data_so, data_length r.head (r.whole f))
 
   -- each test that fails
-  pub no_frame : {a : Bool} → a ≡ false → Neither ≡ inside_by a around s
+  pub no_frame : {a : Bool} → a ≡ false → None ≡ inside_by a around s
   unfolding inside_by one_by
   no_frame f = rw f
 
-  pub no_status : (a : Bool) {b : Bool} → b ≡ good_status (status_in s) → b ≡ false → Neither ≡ inside_by a around s
+  pub no_status : (a : Bool) {b : Bool} → b ≡ good_status (status_in s) → b ≡ false → None ≡ inside_by a around s
   unfolding inside_by one_by
   no_status a e f = rw (← e, f, and-false)
 
-  pub no_data : (a : Bool) {c : Bool} → c ≡ good_data lent → c ≡ false → Neither ≡ inside_by a around s
+  pub no_data : (a : Bool) {c : Bool} → c ≡ good_data lent → c ≡ false → None ≡ inside_by a around s
   unfolding inside_by one_by
   no_data a e f = let data_so : good_data (data_in around s) ≡ false = rw data_lent at (sym e ∙ f) in rw (data_so, and-false, and-false)

@@ -1,4 +1,5 @@
 -- What is written is read back, and what is read is what was written: status, data and whole packets. Assumes nothing.
+use Rattle.std.proofs.Common.{Option, Some, None, is_some, IsSomeAnd}
 use Prim.Native.Nat.{ℕ, ◌+◌, ◌-◌, ◌*◌, ◌/◌, ◌%◌, ◌≤◌, ◌<◌}
 use mathlib.Core.Path.{◌≡◌, refl, sym, ap, ◌∙◌}
 use mathlib.Core.List.{List, ◌∷◌, ◌++◌}
@@ -13,16 +14,12 @@ use Rattle.parts.specs.Parts.{part}
 use Rattle.parts.proofs.Laws.{put_front, put_in_room, take-padded, same_self}
 use Rattle.digits.specs.Operand.{widest}
 use Rattle.digits.specs.Decimal.{ascii, decimal}
-use Rattle.digits.specs.declared.Written.{Written}
-use Rattle.digits.specs.declared.Written.TheVariants.{Past}
 use Rattle.digits.proofs.ReadBack.{Digits, none, one, digits_digits}
 use Rattle.answers.specs.Packet.{low_four, status_of, data_at, around_data, most_data, packet_bytes, number_data, PacketAs}
-use Rattle.answers.specs.Reading.{status_in, data_in, framed_by, one_by, inside_by, found_of, packet_refused, told_of}
+use Rattle.answers.specs.Reading.{status_in, data_in, framed_by, one_by, inside_by, told_of, packet_told}
 use Rattle.answers.specs.Reading.{bit, good_status, all_printable, good_data}
 use Rattle.answers.specs.AnswerClaims.{ToldAs, GenuineAs, StatusBits}
 use Rattle.answers.specs.declared.Packet.{Packet}
-use Rattle.answers.specs.declared.Found.TheVariants.{OnePacket, NotOnePacket}
-use Rattle.answers.specs.declared.Inside.TheVariants.{StatusData, Neither}
 use Rattle.answers.proofs.Writing.{number-most}
 use Rattle.answers.proofs.Framing.{Framing, length_made, framed_is, framed-long}
 
@@ -121,27 +118,26 @@ module _ {make : ℕ → List ℕ → List ℕ} {around start : ℕ} {back : ℕ
     framed_back = rw (status_back, data_back) (same_self (make status bytes))
 
     inside_back : good_status status ≡ true → good_data bytes ≡ true
-        → inside_by (framed_by make around (make status bytes)) around (make status bytes) ≡ StatusData status (length bytes)
+        → inside_by (framed_by make around (make status bytes)) around (make status bytes) ≡ Some (status, length bytes)
     unfolding inside_by one_by
     inside_back h d = rw (framed_back, status_back, data_back, h, d)
 
   -- what the host is told of a slice
-  abbrev told : List ℕ → Packet
+  abbrev told : List ℕ → Option Packet
   told s = told_of (inside_by (framed_by make around s) around s)
 
   pub reads_back : (idle : Bool) (code : ℕ) (bytes : List ℕ) → good_data bytes ≡ true
-      → ToldAs (told (make (status_of idle code) bytes)) (make (status_of idle code) bytes) idle code bytes
+      → IsSomeAnd (told (make (status_of idle code) bytes)) (λ p. ToldAs p (make (status_of idle code) bytes) idle code bytes)
   unfolding told_of
   reads_back idle code bytes h =
       let e = inside_back (status_of idle code) bytes (status-good idle code) h in
       let b = status_bits idle code in
-      record {
-        as_packet = rw e;
-        as_status = rw e;
-        as_idle = rw e b.bit_5;
-        as_code = rw e b.low-four;
-        as_data = rw e (part_back (status_of idle code) bytes);
-      }
+      rw e (record {
+        as_status = refl;
+        as_idle = b.bit_5;
+        as_code = b.low-four;
+        as_data = part_back (status_of idle code) bytes;
+      })
 
   -- no two packets are alike
   pub packet-apart : (s t : ℕ) (x y : List ℕ) → make s x ≡ make t y → (s ≡ t) × (x ≡ y)
@@ -151,9 +147,9 @@ module _ {make : ℕ → List ℕ → List ℕ} {around start : ℕ} {back : ℕ
   )
 
   -- a buffer of 262 bytes
-  pub fits : {buffer : List ℕ} {status : ℕ} {bytes : List ℕ} {r : Written} {after : List ℕ} → around ≤ around_data → packet_bytes ≤ length buffer
+  pub fits : {buffer : List ℕ} {status : ℕ} {bytes : List ℕ} {r : Option ℕ} {after : List ℕ} → around ≤ around_data → packet_bytes ≤ length buffer
       → length bytes ≤ most_data → PacketAs make buffer status bytes r after
-      → (r ≡ Past (around + length bytes)) × (after ≡ make status bytes ++ drop (around + length bytes) buffer)
+      → (r ≡ Some (around + length bytes)) × (after ≡ make status bytes ++ drop (around + length bytes) buffer)
   fits {buffer} {status} {bytes} few b d p =
       let long : length (make status bytes) ≡ around + length bytes = length_made g status bytes in
       let short : leb (length bytes) most_data ≡ true = le-leb (length bytes) most_data d in
@@ -168,51 +164,38 @@ module _ {make : ℕ → List ℕ → List ℕ} {around start : ℕ} {back : ℕ
 
 -- what is told, by whether the slice is one packet
 module _ (isFramed : Bool) (around : ℕ) (s : List ℕ) where
-  told-packet : one_by isFramed around s ≡ true → inside_by isFramed around s ≡ StatusData (status_in s) (length (data_in around s))
-  unfolding inside_by
-  told-packet e = rw e
-
-  told-refused : one_by isFramed around s ≡ false → told_of (inside_by isFramed around s) ≡ packet_refused
-  unfolding inside_by told_of
-  told-refused e = rw e
-
-  pub which : (told_of (inside_by isFramed around s)).found ≡ found_of (one_by isFramed around s)
+  pub which : is_some (told_of (inside_by isFramed around s)) ≡ one_by isFramed around s
   unfolding inside_by told_of
   which = go (one_by isFramed around s)
     where
-      go : (t : Bool) → (told_of (cond t (StatusData (status_in s) (length (data_in around s))) Neither)).found ≡ found_of t
+      go : (t : Bool) → is_some (told_of (cond t (Some (status_in s, length (data_in around s))) None)) ≡ t
       go true = refl
       go false = refl
 
-  -- so what is found is one packet, and what is not found is none
-  found_one : (told_of (inside_by isFramed around s)).found ≡ OnePacket → one_by isFramed around s ≡ true
-  found_one e = go (one_by isFramed around s) (sym which ∙ e)
-    where
-      go : (t : Bool) → found_of t ≡ OnePacket → t ≡ true
-      go true f = refl
-      go false f = let z : ◌≡◌ {A = ℕ} 0 1 = cc in absurd (omega arith)
+  pub refused-bare : one_by isFramed around s ≡ false → told_of (inside_by isFramed around s) ≡ None
+  unfolding inside_by told_of
+  refused-bare e = rw e
 
-  pub refused-zeros : (told_of (inside_by isFramed around s)).found ≡ NotOnePacket → told_of (inside_by isFramed around s) ≡ packet_refused
-  refused-zeros e = told-refused (go (one_by isFramed around s) (sym which ∙ e))
+  -- so what is told is of one packet
+  told-one : {p : Packet} → told_of (inside_by isFramed around s) ≡ Some p
+      → (one_by isFramed around s ≡ true) × (p ≡ packet_told (status_in s) (length (data_in around s)))
+  unfolding inside_by told_of
+  told-one {p} = go (one_by isFramed around s)
     where
-      go : (t : Bool) → found_of t ≡ NotOnePacket → t ≡ false
-      go true f = let z : ◌≡◌ {A = ℕ} 0 1 = cc in absurd (omega arith)
-      go false f = refl
+      go : (t : Bool) → told_of (cond t (Some (status_in s, length (data_in around s))) None) ≡ Some p
+          → (t ≡ true) × (p ≡ packet_told (status_in s) (length (data_in around s)))
+      go true e = (refl, cc)
+      go false e = absurd cc
 
 pub nothing_else : {make : ℕ → List ℕ → List ℕ} {around start : ℕ} {back : ℕ → List ℕ → List ℕ} (g : Framing make around start back) (s : List ℕ)
-    → (told g s).found ≡ OnePacket → GenuineAs make (told g s) s
-unfolding told_of data_in one_by
-nothing_else {make} {around} g s found =
-    let f = found_one (framed_by make around s) around s found in
-    let a = (and-eq-true_iff (framed_by make around s) (good_status (status_in s) && good_data (data_in around s))).0 f in
+    (p : Packet) → told g s ≡ Some p → GenuineAs make p s
+unfolding data_in one_by
+nothing_else {make} {around} g s p found =
+    let t = told-one (framed_by make around s) around s found in
+    let a = (and-eq-true_iff (framed_by make around s) (good_status (status_in s) && good_data (data_in around s))).0 t.0 in
     let b = (and-eq-true_iff (good_status (status_in s)) (good_data (data_in around s))).0 a.1 in
-    let e = told-packet (framed_by make around s) around s f in
     let n : length (data_in around s) ≡ length s - around = omega (arith, framed-long g s a.0) in
-    record {
-      whole = rw (e, n) (framed_is g s a.0);
-      status-good = rw e b.0;
-      data_good = rw (e, n) b.1;
-    }
+    rw (t.1, n) (record { whole = framed_is g s a.0; status-good = b.0; data_good = b.1 })
 
 -- ---- numbers
 

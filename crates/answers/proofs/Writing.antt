@@ -1,5 +1,6 @@
 -- Laws of a packet of either framing that is written: how long it is, that head, data and tail in turn make it, and the promise met each way.
 -- Assumes nothing.
+use Rattle.std.proofs.Common.{Option, Some, None, unwrap_or}
 use Prim.Native.Nat.{ℕ, ◌+◌, ◌≤◌, ◌<◌, zero-le}
 use mathlib.Core.Path.{◌≡◌, refl, sym, ap, ◌∙◌}
 use mathlib.Core.List.{List, [], ◌∷◌}
@@ -12,8 +13,6 @@ use Rattle.parts.specs.Parts.{put, PutIs}
 use Rattle.parts.proofs.Laws.{put-more, put_in_room, length-put_in, put-zeros}
 use Rattle.digits.specs.Operand.{widest}
 use Rattle.digits.specs.Decimal.{decimal, WrittenIs}
-use Rattle.digits.specs.declared.Written.{Written}
-use Rattle.digits.specs.declared.Written.TheVariants.{Past, NoRoom}
 use Rattle.digits.proofs.Writing.{length_most, is_written, is_refused}
 use Rattle.answers.specs.Packet.{host_address, packet_around, data_at, most_data, most_digits, number_data, PacketAs}
 use Rattle.answers.specs.declared.Data.{Data}
@@ -32,20 +31,20 @@ few e h = ltb-false _ _ (sym e ∙ h)
 -- ---- the promise, met each way
 
 -- where the data is not too long, it is a writer's promise
-pub is_packet_lem : {make : ℕ → List ℕ → List ℕ} {buffer : List ℕ} {status : ℕ} {bytes : List ℕ} {answer : Written} {after : List ℕ} → length bytes ≤ most_data
+pub is_packet_lem : {make : ℕ → List ℕ → List ℕ} {buffer : List ℕ} {status : ℕ} {bytes : List ℕ} {answer : Option ℕ} {after : List ℕ} → length bytes ≤ most_data
     → WrittenIs buffer 0 (make status bytes) answer after → PacketAs make buffer status bytes answer after
 is_packet_lem {bytes = bytes} h w =
     let e : leb (length bytes) most_data ≡ true = le-leb (length bytes) most_data h in
     record { answers = w.answers ∙ rw e; leaves = w.leaves ∙ rw e }
 
 pub too_long : (make : ℕ → List ℕ → List ℕ) (buffer : List ℕ) (status : ℕ) (bytes : List ℕ) → most_data < length bytes
-    → PacketAs make buffer status bytes NoRoom buffer
+    → PacketAs make buffer status bytes None buffer
 too_long make buffer status bytes h =
     let e : leb (length bytes) most_data ≡ false = lt-leb (length bytes) most_data h in
     record { answers = rw e; leaves = rw e }
 
 -- the same packet, said in another way
-pub packet_as_lem : {make other : ℕ → List ℕ → List ℕ} {buffer : List ℕ} {status : ℕ} {bytes : List ℕ} {answer : Written} {after : List ℕ}
+pub packet_as_lem : {make other : ℕ → List ℕ → List ℕ} {buffer : List ℕ} {status : ℕ} {bytes : List ℕ} {answer : Option ℕ} {after : List ℕ}
     → other status bytes ≡ make status bytes → PacketAs other buffer status bytes answer after → PacketAs make buffer status bytes answer after
 packet_as_lem e p = record { answers = p.answers ∙ rw e; leaves = p.leaves ∙ rw e }
 
@@ -57,7 +56,7 @@ put_whole xs start status bytes back =
     ∙ put-more xs 0 (start ∷ host_address ∷ status ∷ bytes) zero-le (3 + length bytes) back (omega arith)
 
 module _ {start : ℕ} {back : List ℕ} {buffer : List ℕ} {status : ℕ} {bytes : List ℕ} (h : length bytes ≤ most_data) where
-  pub no_room : length buffer < data_at + length bytes + length back → PacketAs (packet_around start back) buffer status bytes NoRoom buffer
+  pub no_room : length buffer < data_at + length bytes + length back → PacketAs (packet_around start back) buffer status bytes None buffer
   no_room g =
       let long = length-frame start back status bytes in
       is_packet_lem {make = packet_around start back} h (is_refused buffer 0 (packet_around start back status bytes) (omega arith))
@@ -65,7 +64,7 @@ module _ {start : ℕ} {back : List ℕ} {buffer : List ℕ} {status : ℕ} {byt
   -- the same, told by `put_at`
   pub written : {x y z : List ℕ} {p q r : Bool} → data_at + length bytes + length back ≤ length buffer
       → PutIs buffer 0 (start ∷ host_address ∷ status ∷ []) p x → PutIs x 3 bytes q y → PutIs y (3 + length bytes) back r z
-      → PacketAs (packet_around start back) buffer status bytes (Past (data_at + length bytes + length back)) z
+      → PacketAs (packet_around start back) buffer status bytes (Some (data_at + length bytes + length back)) z
   written {x} {y} {z} room a b c =
       let head : List ℕ = start ∷ host_address ∷ status ∷ [] in
       let long = length-frame start back status bytes in
@@ -78,7 +77,7 @@ module _ {start : ℕ} {back : List ℕ} {buffer : List ℕ} {status : ℕ} {byt
       is_packet_lem {make = packet_around start back} h (is_written buffer 0 (packet_around start back status bytes) (omega arith) (omega arith) whole)
 
 -- no second answer meets the promise
-pub packet_once : {make : ℕ → List ℕ → List ℕ} {buffer : List ℕ} {status : ℕ} {bytes : List ℕ} {r s : Written} {x y : List ℕ}
+pub packet_once : {make : ℕ → List ℕ → List ℕ} {buffer : List ℕ} {status : ℕ} {bytes : List ℕ} {r s : Option ℕ} {x y : List ℕ}
     → PacketAs make buffer status bytes r x → PacketAs make buffer status bytes s y → (r ≡ s) × (x ≡ y)
 packet_once p q = (p.answers ∙ sym q.answers, p.leaves ∙ sym q.leaves)
 
@@ -88,20 +87,17 @@ pub number-most : (n : ℕ) → n ≤ widest → length (decimal n) ≤ most_dig
 number-most n h = length_most most_digits n (omega arith) (omega arith)
 
 -- ten zeros with a number written at their front
-module _ (n : ℕ) (h : n ≤ widest) {answer : Written} {after : List ℕ} (w : WrittenIs (replicate most_digits 0) 0 (decimal n) answer after) where
-  number-told : answer ≡ Past (length (decimal n))
+module _ (n : ℕ) (h : n ≤ widest) {answer : Option ℕ} {after : List ℕ} (w : WrittenIs (replicate most_digits 0) 0 (decimal n) answer after) where
+  number-told : answer ≡ Some (length (decimal n))
   number-told =
       let most = number-most n h in
       let zero : 0 + length (decimal n) ≡ length (decimal n) = omega arith in
       let e : leb (0 + length (decimal n)) most_digits ≡ true = le-leb (0 + length (decimal n)) most_digits (omega arith) in
       w.answers ∙ rw (e, zero)
 
-  pub number_fits : answer ≡ NoRoom → ⊥
-  number_fits e = let told = number-told in let z : ◌≡◌ {A = ℕ} 0 1 = cc in omega arith
-
-  pub number_is : {m : ℕ} → answer ≡ Past m → ◌≡◌ {A = Data} (record { bytes = after; length = m }) (number_data n)
+  -- so what is told has the room
+  pub number_is : {m : ℕ} → m ≡ unwrap_or answer 0 → ◌≡◌ {A = Data} (record { bytes = after; length = m }) (number_data n)
   unfolding number_data
   number_is {m} e =
-      let told = number-told in
-      let long : m ≡ length (decimal n) = cc in
+      let long : m ≡ length (decimal n) = e ∙ rw number-told in
       rw (long, w.leaves, put-zeros most_digits (decimal n) (number-most n h))

@@ -1,8 +1,7 @@
 -- The answer in the OEM framing, as it is written and as the host reads it; the rule of status and data is that of the plain one.
 -- 02, E1. Assumes nothing.
-use Rattle.std.specs.Prelude.{ℕ, List, [], ◌∷◌, ◌++◌, Bool}
+use Rattle.std.specs.Prelude.{ℕ, List, [], ◌∷◌, ◌++◌, Bool, Option}
 use Rattle.parts.specs.Letters.{stx, etx}
-use Rattle.digits.specs.declared.Written.{Written}
 use Rattle.checksum.specs.Checksum.{checksum_of}
 use Rattle.answers.specs.Packet.{host_address, packet_around, PacketAs}
 use Rattle.answers.specs.Reading.{framed_by, one_by, inside_by, told_of}
@@ -24,7 +23,7 @@ oem_packet status bytes = packet_around stx (oem_tail status bytes) status bytes
 abbrev pub around_oem : ℕ
 around_oem = 5
 
-abbrev pub OemPacketIs : List ℕ → ℕ → List ℕ → Written → List ℕ → Type 0
+abbrev pub OemPacketIs : List ℕ → ℕ → List ℕ → Option ℕ → List ℕ → Type 0
 OemPacketIs buffer status bytes answer after = PacketAs oem_packet buffer status bytes answer after
 
 -- the packet of its own status and data, and no byte more or less
@@ -36,5 +35,5 @@ abbrev pub is_oem_packet : List ℕ → Bool
 is_oem_packet s = one_by (oem_framed s) around_oem s
 
 -- what the host is told
-abbrev pub read_oem_of : List ℕ → Packet
+abbrev pub read_oem_of : List ℕ → Option Packet
 read_oem_of s = told_of (inside_by (oem_framed s) around_oem s)

@@ -1,9 +1,8 @@
 -- What comes back: status and packet, as they are written. 01, "What comes back". Assumes nothing.
-use Rattle.std.specs.Prelude.{ℕ, ◌+◌, ◌%◌, ◌^◌, List, [], ◌∷◌, ◌++◌, Bool, cond, ◌≡◌, length, leb}
+use Rattle.std.specs.Prelude.{ℕ, ◌+◌, ◌%◌, ◌^◌, List, [], ◌∷◌, ◌++◌, Bool, cond, ◌≡◌, length, leb, Option, None}
 use Rattle.parts.specs.Parts.{padded, put_in}
 use Rattle.parts.specs.Letters.{byte, slash, cr, lf, etx}
 use Rattle.digits.specs.Decimal.{decimal, written_at}
-use Rattle.digits.specs.declared.Written.{Written}
 use Rattle.answers.specs.declared.Data.{Data}
 
 -- "Packet: `/`, `0`, .."
@@ -47,11 +46,11 @@ status_of idle code = 2 ^ 6 + cond idle (2 ^ 5) 0 + low_four code
 
 -- what is answered and what the buffer holds after a packet, made of status and data, was to be written at its front: "answer
 -- bytes past the packet are unchanged"; without room, and for more data than a packet has, all are
-pub record PacketAs (make : ℕ → List ℕ → List ℕ) (buffer : List ℕ) (status : ℕ) (bytes : List ℕ) (answer : Written) (after : List ℕ) : Type 0 where
-  pub answers : answer ≡ cond (leb (length bytes) most_data) (written_at buffer 0 (make status bytes)) Written.NoRoom
+pub record PacketAs (make : ℕ → List ℕ → List ℕ) (buffer : List ℕ) (status : ℕ) (bytes : List ℕ) (answer : Option ℕ) (after : List ℕ) : Type 0 where
+  pub answers : answer ≡ cond (leb (length bytes) most_data) (written_at buffer 0 (make status bytes)) None
   pub leaves : after ≡ cond (leb (length bytes) most_data) (put_in buffer 0 (make status bytes)) buffer
 
-abbrev pub PacketIs : List ℕ → ℕ → List ℕ → Written → List ℕ → Type 0
+abbrev pub PacketIs : List ℕ → ℕ → List ℕ → Option ℕ → List ℕ → Type 0
 PacketIs buffer status bytes answer after = PacketAs packet buffer status bytes answer after
 
 -- 4294967295, the greatest number that is answered, has ten digits

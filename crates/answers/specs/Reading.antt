@@ -1,13 +1,9 @@
 -- A packet that the host reads. 01, the row "slice not exactly one packet (status bit 6 set, bits 7 and 4 clear,
 -- data 0 to 256 bytes of 20 to 7E hex) | named refusal". Assumes nothing.
-use Rattle.std.specs.Prelude.{ℕ, ◌-◌, ◌/◌, ◌%◌, ◌^◌, List, [], ◌∷◌, Bool, true, false, cond, not, ◌&&◌, length, get_or, leb, eqb}
+use Rattle.std.specs.Prelude.{ℕ, ◌-◌, ◌/◌, ◌%◌, ◌^◌, List, [], ◌∷◌, Bool, true, cond, not, ◌&&◌, length, get_or, leb, eqb, Option, Some, None}
 use Rattle.parts.specs.Parts.{part, same}
 use Rattle.answers.specs.Packet.{packet, data_at, around_data, most_data, low_four}
 use Rattle.answers.specs.declared.Packet.{Packet}
-use Rattle.answers.specs.declared.Found.{Found}
-use Rattle.answers.specs.declared.Found.TheVariants.{OnePacket, NotOnePacket}
-use Rattle.answers.specs.declared.Inside.{Inside}
-use Rattle.answers.specs.declared.Inside.TheVariants.{StatusData, Neither}
 
 -- status and data, where they stand in a packet
 abbrev pub status_in : List ℕ → ℕ
@@ -51,30 +47,18 @@ one_by isFramed around s = isFramed && (good_status (status_in s) && good_data (
 abbrev pub is_packet : List ℕ → Bool
 is_packet s = one_by (framed s) around_data s
 
--- status and number of data bytes, or neither
-unfoldable pub inside_by : Bool → ℕ → List ℕ → Inside
-inside_by isFramed around s = cond (one_by isFramed around s) (StatusData (status_in s) (length (data_in around s))) Neither
-
--- "exactly one packet", and the "named refusal" of every other slice
-abbrev pub found_of : Bool → Found
-found_of true = OnePacket
-found_of false = NotOnePacket
-
--- a refusal has zeros beside its name
-abbrev pub packet_refused : Packet
-packet_refused = record { found = found_of false; status = 0; idle = false; code = 0; at = 0; length = 0 }
+-- status and number of data bytes; "named refusal" of every slice that is not exactly one packet
+unfoldable pub inside_by : Bool → ℕ → List ℕ → Option (ℕ × ℕ)
+inside_by isFramed around s = cond (one_by isFramed around s) (Some (status_in s, length (data_in around s))) None
 
 -- what the host is told: "bit 5 set when idle", "low four bits the code", and where the data lies
-unfoldable pub told_of : Inside → Packet
-told_of (StatusData status n) = record {
-  found = found_of true;
-  status = status;
-  idle = bit 5 status;
-  code = low_four status;
-  at = data_at;
-  length = n;
-}
-told_of Neither = packet_refused
+abbrev pub packet_told : ℕ → ℕ → Packet
+packet_told status n = record { status = status; idle = bit 5 status; code = low_four status; at = data_at; length = n }
 
-abbrev pub read_of : List ℕ → Packet
+-- a refusal has nothing beside it
+unfoldable pub told_of : Option (ℕ × ℕ) → Option Packet
+told_of (Some inside) = Some (packet_told inside.0 inside.1)
+told_of None = None
+
+abbrev pub read_of : List ℕ → Option Packet
 read_of s = told_of (inside_by (framed s) around_data s)

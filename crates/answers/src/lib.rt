@@ -3,31 +3,24 @@
 
 ghost use Rattle.std.specs.Prelude.{◌≡◌, ltb};
 ghost use Rattle.answers.specs.Packet.{most_data, status_of, number_data, packet_around, PacketAs, PacketIs};
-ghost use Rattle.answers.specs.Reading.{framed, good_status, good_data, inside_by, told_of, read_of};
+ghost use Rattle.answers.specs.Reading.{framed, good_status, good_data, printable, inside_by, told_of, read_of};
 ghost use Rattle.answers.specs.Room.{Roomy};
 ghost use Rattle.answers.specs.Oem.{oem_sum, OemPacketIs, oem_framed, read_oem_of};
 ghost use Rattle.answers.specs.AnswerClaims.{AnswerClaims};
 
-use digits::Written;
+use checksum::{ETX, STX};
 
 // A number as data: its digits, zeros behind them, and how many digits.
+// A buffer with its length: the digits are the call's own, and the library has no heap.
 #[derive(Clone, Copy)]
 pub struct Data {
     pub bytes: [u8; MOST_DIGITS],
     pub length: usize,
 }
 
-// Whether a slice is exactly one packet.
-#[derive(Clone, Copy)]
-pub enum Found {
-    OnePacket,
-    NotOnePacket,
-}
-
-// A packet that was read: status, its idle bit and its code, and where the data lies. All 0 where the slice is not exactly one packet.
+// A packet that was read: status, its idle bit and its code, and where the data lies.
 #[derive(Clone, Copy)]
 pub struct Packet {
-    pub found: Found,
     pub status: u8,
     pub idle: bool,
     pub code: u8,
@@ -35,28 +28,15 @@ pub struct Packet {
     pub length: usize,
 }
 
-// What stands within the frame of a packet.
-#[derive(Clone, Copy)]
-enum Inside {
-    // The status, and how many bytes of data.
-    StatusData(u8, usize),
-    // The slice is not exactly one packet.
-    Neither,
-}
-
 // "Packet: `/`, `0`, status, data, 03, CR, LF."
+// An OEM packet: 02, `0`, status, data, 03, the checksum of all these.
 const SLASH: u8 = b'/';
 
-const HOST_ADDRESS: u8 = b'0';
-
-const END_OF_TEXT: u8 = 3;
+pub const HOST_ADDRESS: u8 = b'0';
 
 const CARRIAGE_RETURN: u8 = 13;
 
 const LINE_FEED: u8 = 10;
-
-// An OEM packet: 02, `0`, status, data, 03, the checksum of all these.
-const START_OF_TEXT: u8 = 2;
 
 // Where status and data stand, and how many bytes stand behind the data, and around it.
 const STATUS_AT: usize = 2;
@@ -72,7 +52,7 @@ const OEM_TAIL_BYTES: usize = 2;
 const AROUND_OEM: usize = DATA_AT + OEM_TAIL_BYTES;
 
 // "data 0 to 256 bytes"
-const MOST_DATA: usize = 256;
+pub const MOST_DATA: usize = 256;
 
 // The greatest number of 32 bits has ten digits.
 const MOST_DIGITS: usize = 10;
@@ -92,6 +72,7 @@ const LEAST_DATA: u8 = 0x20;
 const GREATEST_DATA: u8 = 0x7E;
 
 // The status for an idle or running unit and a code.
+#[tactic(auto, unfolding(crate::specs::Packet::status_of))]
 pub fn status(idle: bool, code: u8) -> u8
     ensures { result ≡ status_of idle code }
 {
@@ -107,57 +88,51 @@ pub fn status(idle: bool, code: u8) -> u8
 pub fn good_status(status: u8) -> bool
     ensures { result ≡ good_status status }
 {
-    if status / BIT_7 % 2 == 1 {
-        return false;
-    }
-    if status / BIT_4 % 2 == 1 {
-        return false;
-    }
-    status / BIT_6 % 2 == 1
+    status & (BIT_7 | BIT_6 | BIT_4) == BIT_6
 }
 
-// The length of the packet, which is written at the front of the buffer; or that it does not fit, and nothing is written.
-pub fn write_packet(buffer: &mut [u8], status: u8, data: &[u8]) -> Written
+// The length of the packet, which is written at the front of the buffer; None where it does not fit, and nothing is written.
+pub fn write_packet(buffer: &mut [u8], status: u8, data: &[u8]) -> Option<usize>
     ensures { PacketIs buffer.old status «data».now result buffer.new }
 {
-    let tail = [END_OF_TEXT, CARRIAGE_RETURN, LINE_FEED];
+    let tail = [ETX, CARRIAGE_RETURN, LINE_FEED];
     write_framed(buffer, SLASH, status, data, &tail)
 }
 
 // The same in the OEM framing.
-pub fn write_oem_packet(buffer: &mut [u8], status: u8, data: &[u8]) -> Written
+pub fn write_oem_packet(buffer: &mut [u8], status: u8, data: &[u8]) -> Option<usize>
     ensures { OemPacketIs buffer.old status «data».now result buffer.new }
 {
-    let tail = [END_OF_TEXT, oem_sum(status, data)];
-    write_framed(buffer, START_OF_TEXT, status, data, &tail)
+    let tail = [ETX, oem_sum(status, data)];
+    write_framed(buffer, STX, status, data, &tail)
 }
 
 // The packet of either framing, by its first byte and its tail.
-fn write_framed(buffer: &mut [u8], start: u8, status: u8, data: &[u8], tail: &[u8]) -> Written
+fn write_framed(buffer: &mut [u8], start: u8, status: u8, data: &[u8], tail: &[u8]) -> Option<usize>
     ensures { PacketAs (packet_around start tail.now) buffer.old status «data».now result buffer.new }
 {
     let n = data.len();
     if too_long(n) {
-        return Written::NoRoom;
+        return None;
     }
     let end = DATA_AT + n;
     let past = end + tail.len();
     if buffer.len() < past {
-        return Written::NoRoom;
+        return None;
     }
     let head = [start, HOST_ADDRESS, status];
     parts::put_at(buffer, 0, &head);
     parts::put_at(buffer, DATA_AT, data);
     parts::put_at(buffer, end, tail);
-    Written::Past(past)
+    Some(past)
 }
 
 // The checksum of an OEM packet.
 fn oem_sum(status: u8, data: &[u8]) -> u8
     ensures { result ≡ oem_sum status «data».now }
 {
-    let head = checksum::with_byte(checksum::with_byte(START_OF_TEXT, HOST_ADDRESS), status);
-    checksum::with_byte(checksum::with_bytes(head, data), END_OF_TEXT)
+    let head = checksum::with_byte(checksum::with_byte(STX, HOST_ADDRESS), status);
+    checksum::with_byte(checksum::with_bytes(head, data), ETX)
 }
 
 // A number in decimal without leading zeros, as data.
@@ -165,108 +140,74 @@ pub fn number_data(n: u32) -> Data
     ensures { result ≡ number_data n }
 {
     let mut bytes = [0u8; MOST_DIGITS];
-    let Written::Past(length) = digits::write_number(&mut bytes, 0, n) else {
-        return Data { bytes, length: 0 };
-    };
+    let length = digits::write_number(&mut bytes, 0, n).unwrap_or(0);
     Data { bytes, length }
 }
 
 // Status, idle, code and place of the data of a slice that is exactly one packet.
-pub fn read_packet(packet: &[u8]) -> Packet
+pub fn read_packet(packet: &[u8]) -> Option<Packet>
     ensures { result ≡ read_of packet.now }
 {
     tell(look_inside(packet, AROUND_DATA, framed(packet)))
 }
 
 // The same of a slice that is exactly one packet of the OEM framing.
-pub fn read_oem_packet(packet: &[u8]) -> Packet
+pub fn read_oem_packet(packet: &[u8]) -> Option<Packet>
     ensures { result ≡ read_oem_of packet.now }
 {
     tell(look_inside(packet, AROUND_OEM, oem_framed(packet)))
 }
 
-// What the host is told of what stands within a packet.
-fn tell(inside: Inside) -> Packet
+// What the host is told of the status and the number of data bytes within a packet.
+fn tell(inside: Option<(u8, usize)>) -> Option<Packet>
     ensures { result ≡ told_of inside }
 {
-    let Inside::StatusData(status, length) = inside else {
-        return Packet {
-            found: Found::NotOnePacket,
-            status: 0,
-            idle: false,
-            code: 0,
-            at: 0,
-            length: 0,
-        };
+    // 01's form: a packet is taken apart by let .. else, with the refusal as the other branch.
+    let Some((status, length)) = inside else {
+        return None;
     };
-    Packet {
-        found: Found::OnePacket,
+    Some(Packet {
         status,
         idle: status / BIT_5 % 2 == 1,
         code: status % BIT_4,
         at: DATA_AT,
         length,
-    }
+    })
 }
 
 // The status and the number of data bytes of a slice that is exactly one packet of a framing: with so many bytes around the data, and framed or not.
-fn look_inside(packet: &[u8], around: usize, framed: bool) -> Inside
+fn look_inside(packet: &[u8], around: usize, framed: bool) -> Option<(u8, usize)>
     requires { Roomy framed around packet.now }
     ensures { result ≡ inside_by framed around packet.now }
 {
     if framed {
         let status = packet[STATUS_AT];
         let n = packet.len() - around;
-        if good_status(status) {
-            if good_data(&packet[DATA_AT..DATA_AT + n]) {
-                return Inside::StatusData(status, n);
-            }
+        if good_status(status) && good_data(&packet[DATA_AT..DATA_AT + n]) {
+            return Some((status, n));
         }
     }
-    Inside::Neither
+    None
 }
 
 // Whether a slice begins and ends as a packet does, with room for the status between.
 fn framed(packet: &[u8]) -> bool
     ensures { result ≡ framed packet.now }
 {
-    if packet.len() < AROUND_DATA {
-        return false;
-    }
-    if packet[0] != SLASH {
-        return false;
-    }
-    if packet[1] != HOST_ADDRESS {
-        return false;
-    }
-    let end = packet.len() - TAIL_BYTES;
-    if packet[end] != END_OF_TEXT {
-        return false;
-    }
-    if packet[end + 1] != CARRIAGE_RETURN {
-        return false;
-    }
-    packet[end + 2] == LINE_FEED
+    matches!(
+        packet,
+        [SLASH, HOST_ADDRESS, _, .., ETX, CARRIAGE_RETURN, LINE_FEED]
+    )
 }
 
 // Whether a slice begins and ends as an OEM packet does, with the right checksum and room for the status between.
 fn oem_framed(packet: &[u8]) -> bool
     ensures { result ≡ oem_framed packet.now }
 {
-    if packet.len() < AROUND_OEM {
+    let [STX, HOST_ADDRESS, _, .., ETX, sum] = packet else {
         return false;
-    }
-    if packet[0] != START_OF_TEXT {
-        return false;
-    }
-    if packet[1] != HOST_ADDRESS {
-        return false;
-    }
-    let end = packet.len() - OEM_TAIL_BYTES;
-    if packet[end] != END_OF_TEXT {
-        return false;
-    }
-    packet[end + 1] == checksum::sum(&packet[0..end + 1])
+    };
+    *sum == checksum::sum(&packet[..packet.len() - 1])
 }
 
 // Whether a packet may have these bytes as data: at most 256, of 20 to 7E hex.
@@ -276,18 +217,20 @@ fn good_data(bytes: &[u8]) -> bool
     if too_long(bytes.len()) {
         return false;
     }
-    let mut i = 0;
-    while i < bytes.len() {
-        let b = bytes[i];
-        if b < LEAST_DATA {
+    // A `for`: `all` reads an Option of a reference, which lies otherwise on a chip, and `chip/pointer-places` refuses it.
+    for b in bytes {
+        if !printable(*b) {
             return false;
         }
-        if GREATEST_DATA < b {
-            return false;
-        }
-        i += 1;
     }
     true
+}
+
+// Whether data may have this byte: 20 to 7E hex.
+pub fn printable(b: u8) -> bool
+    ensures { result ≡ printable b }
+{
+    LEAST_DATA <= b && b <= GREATEST_DATA
 }
 
 // Whether so many bytes are more than the data of a packet may have.

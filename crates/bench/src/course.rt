@@ -1,10 +1,12 @@
 // Turns made one after another, each reporting all its steps: `run`, and `timeline`, which tells each of them.
-use crate::forms::Task;
-use crate::{fields, forms, state, telling, unit};
-use drive::{Record, Turned};
-use motor::{Motor, Wait};
+use crate::forms::Course;
+use crate::state::Bench;
+use crate::telling::{Answer, say, tell};
+use crate::{state, unit};
+use digits::Operand;
+use drive::{Record, TurnRefused, Turned};
+use motor::Wait;
 use std::io;
-use turns::Action;
 
 // The most turns of one run.
 const MOST_TURNS: u32 = 100_000;
@@ -12,207 +14,156 @@ const MOST_TURNS: u32 = 100_000;
 // All four inputs high: the greatest sample that a turn takes.
 const SAMPLE_MOST: u8 = 15;
 
-// How a run of turns ends: the unit is idle, or waits, or is still busy; or it was refused.
-const IDLE: u64 = 0;
-
-const WAITS: u64 = 1;
-
-const BUSY: u64 = 2;
-
-const IMAGE_LENGTH: u64 = 3;
-
-const SAMPLE: u64 = 4;
-
 // `run SAMPLE MS`, `timeline SAMPLE MS`; where that is refused no turn is made.
-pub(crate) fn run(
-    rt: &impl Print,
-    u: Record,
-    t: Task,
-    text: &mut [u8; state::TEXT_BYTES],
-    image: &[u8],
-) -> io::Result<Record> {
-    let sample = fields::byte_of(t.b);
-    let refusal = refusal_of(image::is_right_length(image), sample);
-    if refusal != IDLE {
-        telling::say(rt, forms::RUN, refusal, 0, 0, 0)?;
-        return Ok(u);
+pub(crate) fn run(rt: &impl Print, b: &mut Bench<'_>, u: Record, course: Course) -> io::Result<()> {
+    if !image::is_right_length(b.image.as_slice()) {
+        return say(rt, b"refused image-length");
     }
-    make_turns(rt, u, t.row, sample, fields::narrow(t.c), text, image)
-}
-
-// Why turns are refused; IDLE where they are not.
-fn refusal_of(is_right_length: bool, sample: u8) -> u64 {
-    if !is_right_length {
-        return IMAGE_LENGTH;
+    if SAMPLE_MOST < course.sample {
+        return say(rt, b"refused sample");
     }
-    if SAMPLE_MOST < sample { SAMPLE } else { IDLE }
+    make_turns(rt, b, u, course)
 }
 
 // Makes turns until the unit has ended or waits, and tells how many.
-fn make_turns(
-    rt: &impl Print,
-    u: Record,
-    row: usize,
-    sample: u8,
-    ms: u32,
-    text: &mut [u8; state::TEXT_BYTES],
-    image: &[u8],
-) -> io::Result<Record> {
+fn make_turns(rt: &impl Print, b: &mut Bench<'_>, u: Record, course: Course) -> io::Result<()> {
     let mut now = u;
     for n in 0..MOST_TURNS {
-        if !goes_on(now, sample) {
-            return tell_ran(rt, now, n, sample);
+        if !goes_on(now, course.sample) {
+            return tell_ran(rt, now, n, course.sample);
         }
-        now = make_turn(rt, now, n, row, sample, ms, text, image)?;
+        now = make_turn(rt, b, now, n, course)?;
     }
-    tell_ran(rt, now, MOST_TURNS, sample)
+    tell_ran(rt, now, MOST_TURNS, course.sample)
+}
+
+// The turn behind n others, which reports all the steps of the last action, told where that is asked for.
+fn make_turn(
+    rt: &impl Print,
+    b: &mut Bench<'_>,
+    u: Record,
+    n: u32,
+    course: Course,
+) -> io::Result<Record> {
+    let text = copied(&*b.text);
+    let Ok(turned) = turn(b, u, course) else {
+        // with the image and the sample that were looked at no turn is refused
+        return Ok(u);
+    };
+    b.unit = Some(turned.unit);
+    if course.told {
+        tell_turn(rt, n, u, parts::first(&text, u.core.flow.length), turned)?;
+    }
+    Ok(turned.unit)
+}
+
+// A text as it is now. By a call the prover knows how long it is, behind the bench it does not.
+fn copied(text: &[u8; state::TEXT_BYTES]) -> [u8; state::TEXT_BYTES] {
+    *text
+}
+
+fn turn(b: &mut Bench<'_>, u: Record, course: Course) -> Result<Turned, TurnRefused> {
+    let steps = u.core.motor.last.number;
+    let image = b.image.as_slice();
+    drive::turn(u, &mut *b.text, course.sample, course.ms, steps, image)
 }
 
 // How many turns were made, and how they have ended.
-fn tell_ran(rt: &impl Print, u: Record, turns: u32, sample: u8) -> io::Result<Record> {
-    let k = end_of(u.core.running, goes_on(u, sample));
-    telling::say(rt, forms::RUN, k, turns as u64, u.core.code as u64, 0)?;
-    Ok(u)
-}
-
-// How turns have ended, by whether the unit runs and whether it goes on.
-fn end_of(running: bool, goes_on: bool) -> u64 {
-    if !running {
-        return IDLE;
+fn tell_ran(rt: &impl Print, u: Record, turns: u32, sample: u8) -> io::Result<()> {
+    let turns = u64::from(turns);
+    if !u.core.running {
+        return tell(rt, b"ran # idle #", &[turns, u64::from(u.core.code)], b"");
     }
-    if goes_on { BUSY } else { WAITS }
+    if goes_on(u, sample) {
+        return tell(rt, b"ran # busy", &[turns], b"");
+    }
+    tell(rt, b"ran # waits", &[turns], b"")
 }
 
 // Whether a unit runs and waits for no input that the sample does not have.
 fn goes_on(u: Record, sample: u8) -> bool {
-    if !u.core.running {
-        return false;
+    match u.core.motor.wait {
+        Wait::Input(digits) => u.core.running && motor::level_there(digits, sample),
+        _ => u.core.running,
     }
-    let c = u.core;
-    let m = c.motor;
-    let wait = m.wait;
-    let Wait::Input(digits) = wait else {
-        return true;
-    };
-    motor::level_there(digits, sample)
 }
 
-// The turn behind n others, told where that is asked for.
-fn make_turn(
-    rt: &impl Print,
-    u: Record,
-    n: u32,
-    row: usize,
-    sample: u8,
-    ms: u32,
-    text: &mut [u8; state::TEXT_BYTES],
-    image: &[u8],
-) -> io::Result<Record> {
-    let before = *text;
-    let turned = drive::turn(u, text, sample, ms, u.core.motor.last.number, image);
-    tell_turn(rt, row, u, before, n, turned)?;
-    Ok(turned.unit)
-}
-
-// Writes the line of a turn where that is asked for: its number, the place in the text, the command taken, then what it leaves.
-fn tell_turn(
-    rt: &impl Print,
-    row: usize,
-    u: Record,
-    text: [u8; state::TEXT_BYTES],
-    n: u32,
-    turned: Turned,
-) -> io::Result<()> {
-    if row != forms::TIMELINE {
-        return Ok(());
-    }
+// The line of a turn: its number, the place in the text, the command taken, then what it leaves. Turns and places are told from 1 on.
+fn tell_turn(rt: &impl Print, n: u32, u: Record, text: &[u8], turned: Turned) -> io::Result<()> {
     let at = u.core.flow.at;
-    let command = fields::command_at(parts::first(&text, u.core.flow.length), at);
-    let before = u.core.motor;
-    let after = turned.unit.core.motor;
+    let left = turned.unit.core.motor;
+    let turn = u64::from(n).saturating_add(1);
+    let place = (at as u64).saturating_add(1);
+    let numbers = [turn, place, u64::from(left.position)];
+    let mut a = Answer::new();
+    let taken = taken(u.core.motor.wait, command_at(text, at));
+    a.add(b"turn #: at # $, position #", &numbers, taken);
+    if !left.known {
+        a.add_text(b"?");
+    }
+    a.add_text(b", wait ");
+    add_wait(&mut a, left.wait);
+    a.add_text(b", ");
     let action = turned.action;
-    tell_left(
-        rt,
-        next(n as u64),
-        next(at as u64),
-        taken(before, command.len()),
-        after,
-        action,
-        command,
-    )
+    a.add(
+        unit::words_of(action.direction),
+        &[u64::from(action.number)],
+        b"",
+    );
+    a.tell(rt)
 }
 
-// Which command a turn takes: 0 where none is left, 1 where it serves a wait, else 2.
-fn taken(m: Motor, length: usize) -> u64 {
-    let wait = m.wait;
-    let Wait::Nothing = wait else {
-        return 1;
-    };
-    if length == 0 { 0 } else { 2 }
-}
-
-// Turns and places are told from 1 on.
-fn next(n: u64) -> u64 {
-    if n < u64::MAX { n + 1 } else { n }
-}
-
-// The same of what it leaves.
-fn tell_left(
-    rt: &impl Print,
-    n: u64,
-    at: u64,
-    taken: u64,
-    m: Motor,
-    action: Action,
-    command: &[u8],
-) -> io::Result<()> {
-    let direction = action.direction;
-    let wait = m.wait;
-    let numbers = [
-        n,
-        at,
-        taken,
-        m.position as u64,
-        m.known as u64,
-        wait_code(wait),
-        wait_left(wait),
-        unit::direction_code(direction),
-        action.number as u64,
-    ];
-    telling::print(rt, telling::TURN_LINE, &numbers, command)
-}
-
-// What a run waits for, as `timeline` names it.
-fn wait_code(wait: Wait) -> u64 {
-    match wait {
-        Wait::Nothing => 0,
-        Wait::Move { up, endless, left } => move_code(endless),
-        Wait::LegAway { left, span } => 3,
-        Wait::LegToward(left) => 4,
-        Wait::Delay(left) => 5,
-        Wait::Input(digits) => 6,
+// What a turn takes of a text: `-` where it serves a wait, `end` where no command is left.
+fn taken<'a>(wait: Wait, command: &'a [u8]) -> &'a [u8] {
+    if !matches!(wait, Wait::Nothing) {
+        b"-"
+    } else if command.is_empty() {
+        b"end"
+    } else {
+        command
     }
 }
 
-// A move, or an endless one.
-fn move_code(endless: bool) -> u64 {
-    if endless { 2 } else { 1 }
+// The command at a place of a text that was checked, as it was typed; nothing where none is left.
+fn command_at(text: &[u8], at: usize) -> &[u8] {
+    let end = command_end(text, at);
+    parts::part(text, at, end.saturating_sub(at))
 }
 
-// What is left of it; of an input its two digits.
-fn wait_left(wait: Wait) -> u64 {
-    match wait {
-        Wait::Nothing => 0,
-        Wait::Move { up, endless, left } => left as u64,
-        Wait::LegAway { left, span } => left as u64,
-        Wait::LegToward(left) => left as u64,
-        Wait::Delay(left) => left as u64,
-        Wait::Input(digits) => two_digits(digits),
+// The place past the command at a place.
+fn command_end(text: &[u8], at: usize) -> usize {
+    let after = at.saturating_add(1);
+    if matches!(parts::part(text, at, 1), [b'g']) {
+        return after;
+    }
+    match digits::read_operand(text, after) {
+        Operand::Missing => after,
+        Operand::Number(_, end) | Operand::Above(end) => end,
     }
 }
 
-// Of a number below 100 the one whose hex digits are its digits.
-fn two_digits(n: u32) -> u64 {
-    let digits = (n % 100) as u64;
-    digits / 10 * 16 + digits % 10
+// Adds what a run waits for, and what is left of it; of an input its two digits.
+fn add_wait(a: &mut Answer, wait: Wait) {
+    match wait {
+        Wait::Nothing => a.add_text(b"none"),
+        Wait::Move {
+            endless: false,
+            left,
+            ..
+        } => add_left(a, b"move #", left),
+        Wait::Move {
+            endless: true,
+            left,
+            ..
+        } => add_left(a, b"endless #", left),
+        Wait::LegAway { left, .. } => add_left(a, b"away #", left),
+        Wait::LegToward(left) => add_left(a, b"toward #", left),
+        Wait::Delay(left) => add_left(a, b"delay #", left),
+        Wait::Input(digits) if digits < 10 => add_left(a, b"input 0#", digits),
+        Wait::Input(digits) => add_left(a, b"input #", digits),
+    }
+}
+
+fn add_left(a: &mut Answer, form: &[u8], left: u32) {
+    a.add(form, &[u64::from(left)], b"");
 }

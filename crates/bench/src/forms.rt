@@ -1,17 +1,11 @@
-// The operations as one table, a row each: the form, a `:`, what it is for. Help is the table, a line is read field by field against
-// its form, and what is wrong with it is told in the words of the form.
-use crate::fields::{LF, Reading};
-use crate::{fields, list, state, telling};
+// The operations as one table, a line each: the form, a `:`, what it is for. Help is the table; a line is read field by field, and what
+// is wrong with a field is told by its name in the form.
+use crate::fields::Fault;
+use crate::giving::Form;
+use crate::{fields, list, state};
 
-// The most fields of a form, with the `:` behind them.
-const MOST_FIELDS: usize = 4;
-
-// The rows, and the bytes of the table.
-const ROWS: usize = 24;
-
-const TABLE_BYTES: usize = 1069;
-
-pub(crate) const TABLE: [u8; TABLE_BYTES] = *b"image HEX : lend these bytes as the image
+pub(crate) fn table() -> &'static [u8] {
+    b"image HEX : lend these bytes as the image
 image empty : lend the image with all slots empty
 room N : lend an answer buffer of N bytes, each a5
 buffer : tell the answer buffer
@@ -34,307 +28,317 @@ listen HEX : hear these bytes of the line from a fresh table
 older HEX : read a text of the older drive into ours
 newer HEX : write a text of ours back for the older drive
 /... : feed a line as it is typed, with a CR
-help : tell the operations";
-
-pub(crate) const IMAGE: usize = 0;
-
-pub(crate) const EMPTY: usize = 1;
-
-pub(crate) const ROOM: usize = 2;
-
-pub(crate) const START: usize = 4;
-
-pub(crate) const FEED: usize = 5;
-
-pub(crate) const TURN: usize = 6;
-
-pub(crate) const RUN: usize = 7;
-
-pub(crate) const TIMELINE: usize = 8;
-
-pub(crate) const UNIT: usize = 9;
-
-pub(crate) const STORE: usize = 10;
-
-pub(crate) const LINE: usize = 11;
-
-pub(crate) const TEXT: usize = 12;
-
-pub(crate) const RAMP: usize = 13;
-
-pub(crate) const ENDLESS: usize = 14;
-
-pub(crate) const WRITE: usize = 15;
-
-pub(crate) const READ: usize = 16;
-
-pub(crate) const OEM: usize = 17;
-
-pub(crate) const COUNT: usize = 18;
-
-pub(crate) const LISTEN: usize = 19;
-
-pub(crate) const OLDER: usize = 20;
-
-pub(crate) const NEWER: usize = 21;
-
-pub(crate) const TYPED: usize = 22;
-
-pub(crate) const HELP: usize = 23;
-
-// The names of fields that are no numbers, and the end of a form.
-const KINDS: [u8; 35] = *b"HEX \nRUN \nSLOT \nSEQ \nTEXT \nLIST \n: ";
-
-const KIND_TEXT: usize = 4;
-
-const KIND_LIST: usize = 5;
-
-const KIND_END: usize = 6;
-
-// The greatest unit number and the greatest sample.
-const BYTE_MOST: u64 = 255;
+help : tell the operations"
+}
 
 // What a line asks for.
 #[derive(Clone, Copy)]
-pub(crate) struct Task {
-    // The row of its form; that of a reason where it is none of the operations.
-    pub(crate) row: usize,
-    // What the last three fields read as; of a reason the first is what is wrong.
-    pub(crate) a: u64,
-    pub(crate) b: u64,
-    pub(crate) c: u64,
-    // Where the last field begins; of a reason where the name of the field stands in the table.
-    pub(crate) at: usize,
-    // The part of the line that holds the bytes which it gives.
-    pub(crate) from: usize,
-    pub(crate) length: usize,
-    // What is wrong with the last field, where its name stands in the table, and whether a number before it has over 32 bits.
-    fault: usize,
-    name: usize,
+pub(crate) enum Task {
+    Image,
+    Empty,
+    Room(usize),
+    Buffer,
+    Store,
+    Start(u8),
+    Write { slot: Option<u32>, run: bool },
+    OnUnit(OnUnit),
+    Call(Call),
+    Help,
+}
+
+// An operation on the unit.
+#[derive(Clone, Copy)]
+pub(crate) enum OnUnit {
+    Feed,
+    // The same, its answer told as text.
+    Talk,
+    Turn { sample: u8, ms: u32, steps: u32 },
+    Run(Course),
+    Tell,
+}
+
+// Turns made one after another, and whether each of them is told.
+#[derive(Clone, Copy)]
+pub(crate) struct Course {
+    pub(crate) sample: u8,
+    pub(crate) ms: u32,
+    pub(crate) told: bool,
+}
+
+// A call that needs neither a unit nor anything lent.
+#[derive(Clone, Copy)]
+pub(crate) enum Call {
+    Line,
+    Text,
+    // None: an endless move.
+    Ramp { v: u32, l: u32, n: Option<u32> },
+    Read,
+    Count,
+    Listen,
+    Older,
+    Newer,
+}
+
+// The fields of a line. What was read stands here and not in what a call answers: on a chip with pointers of 32 bits no enum may
+// hold a pointer where it holds a number (`chip/pointer-places`).
+#[derive(Clone, Copy)]
+pub(crate) struct Fields<'a> {
+    // What is left to read; none behind the last field.
+    left: Option<&'a [u8]>,
+    // The field that was read last, and how its bytes are told.
+    pub(crate) field: &'a [u8],
+    pub(crate) form: Form,
+    // Its name, and those of what is left, with what follows them in the form.
+    pub(crate) name: &'static [u8],
+    names: &'static [u8],
+    // Whether a number was too great, which is told only where nothing else is wrong.
     great: bool,
 }
 
-// What a line asks for.
-pub(crate) fn read(line: &[u8]) -> Task {
-    if fields::byte_at(line, 0) == b'/' {
-        return blank_task(TYPED, 0, 0);
+// What a line asks for, and its fields.
+pub(crate) fn read(line: &[u8]) -> (Result<Task, Fault>, Fields<'_>) {
+    let (word, left) = fields::cut(line, b' ');
+    let mut f = Fields {
+        left,
+        field: b"",
+        form: Form::Plain,
+        name: b"",
+        names: names_of(word),
+        great: false,
+    };
+    let task = task_of(line, word, &mut f);
+    (task, f)
+}
+
+// What a line asks for, by its first word.
+fn task_of<'a>(line: &'a [u8], word: &[u8], f: &mut Fields<'a>) -> Result<Task, Fault> {
+    if matches!(line, [b'/', ..]) {
+        f.field = line;
+        f.form = Form::Typed;
+        return Ok(Task::OnUnit(OnUnit::Talk));
     }
     if line == b"image empty".as_slice() {
-        return blank_task(EMPTY, 0, 0);
+        return Ok(Task::Empty);
     }
-    read_by(&TABLE, line)
+    let task = lending(word, f)?;
+    f.close()?;
+    Ok(task)
 }
 
-// A task before any field is read.
-fn blank_task(row: usize, a: u64, at: usize) -> Task {
-    Task {
-        row: row,
-        a: a,
-        b: 0,
-        c: 0,
-        at: at,
-        from: 0,
-        length: 0,
-        fault: fields::FINE,
-        name: 0,
-        great: false,
-    }
-}
-
-// What a line asks for by a table of forms.
-fn read_by(table: &[u8], line: &[u8]) -> Task {
-    let row = row_of(table, fields::field_at(line, 0));
-    if ROWS <= row {
-        return reason(fields::NO_ROW, 0);
-    }
-    let t = read_fields(table, row, line);
-    if is_endless(table, line, t) {
-        return task_of(ENDLESS, t);
-    }
-    judged(t)
-}
-
-// The first row that begins with a word; ROWS where there is none.
-fn row_of(table: &[u8], word: &[u8]) -> usize {
-    let mut at = 0;
-    for row in 0..ROWS {
-        if word == fields::field_at(table, at) {
-            return row;
+// What is lent, the unit started, and a line written into what is lent.
+fn lending(word: &[u8], f: &mut Fields<'_>) -> Result<Task, Fault> {
+    match word {
+        b"image" => {
+            f.hex()?;
+            f.great = 2 * state::IMAGE_MOST < f.field.len();
+            Ok(Task::Image)
         }
-        at = fields::past(table, at, LF);
+        b"room" => Ok(Task::Room(f.room()?)),
+        b"buffer" => Ok(Task::Buffer),
+        b"store" => Ok(Task::Store),
+        b"start" => Ok(Task::Start(f.byte()?)),
+        b"help" => Ok(Task::Help),
+        b"write" => {
+            let slot = f.slot()?;
+            let run = f.run()?;
+            f.list()?;
+            Ok(Task::Write { slot, run })
+        }
+        _ => on_unit(word, f),
     }
-    ROWS
 }
 
-// Reads the fields of a line, up to the first one that is wrong.
-fn read_fields(table: &[u8], row: usize, line: &[u8]) -> Task {
-    let mut t = blank_task(row, 0, 0);
-    let mut at = 0;
-    let mut name = fields::past_nth(table, 0, row, LF);
-    for _ in 0..MOST_FIELDS {
-        at = fields::past(line, at, b' ');
-        name = fields::past(table, name, b' ');
-        let field = read_field(fields::field_at(table, name), line, at, t.great);
-        t = with_field(t, field, at, name);
-        if t.fault != fields::FINE {
-            return t;
+// What is done on the unit.
+fn on_unit(word: &[u8], f: &mut Fields<'_>) -> Result<Task, Fault> {
+    let operation = match word {
+        b"feed" => {
+            f.hex()?;
+            OnUnit::Feed
+        }
+        b"turn" => {
+            let sample = f.byte()?;
+            let ms = f.number()?;
+            let steps = f.number()?;
+            OnUnit::Turn { sample, ms, steps }
+        }
+        b"run" => OnUnit::Run(f.course(false)?),
+        b"timeline" => OnUnit::Run(f.course(true)?),
+        b"unit" => OnUnit::Tell,
+        b"oem" => {
+            let sequence = f.sequence()?;
+            f.rest()?;
+            f.form = Form::Oem(sequence);
+            OnUnit::Talk
+        }
+        _ => return calls(word, f),
+    };
+    Ok(Task::OnUnit(operation))
+}
+
+// The calls that need no unit.
+fn calls(word: &[u8], f: &mut Fields<'_>) -> Result<Task, Fault> {
+    let call = match word {
+        b"line" => Call::Line,
+        b"text" => Call::Text,
+        b"ramp" => return f.ramp(),
+        b"read" => Call::Read,
+        b"count" => Call::Count,
+        b"listen" => Call::Listen,
+        b"older" => Call::Older,
+        b"newer" => Call::Newer,
+        _ => return Err(Fault::NoOperation),
+    };
+    f.hex()?;
+    Ok(Task::Call(call))
+}
+
+impl Fields<'_> {
+    // No field is left, and no number was too great.
+    fn close(&self) -> Result<(), Fault> {
+        if self.left.is_some() {
+            return Err(Fault::TooMany);
+        }
+        if self.great {
+            return Err(Fault::TooGreat);
+        }
+        Ok(())
+    }
+
+    // The next name.
+    fn take_name(&mut self) {
+        let (name, names) = fields::cut(self.names, b' ');
+        self.name = name;
+        self.names = names.unwrap_or(b"");
+    }
+
+    // All that is left, as the next field.
+    fn rest(&mut self) -> Result<(), Fault> {
+        self.take_name();
+        let Some(rest) = self.left else {
+            return Err(Fault::Missing);
+        };
+        self.field = rest;
+        self.left = None;
+        Ok(())
+    }
+
+    // The next field.
+    fn next(&mut self) -> Result<(), Fault> {
+        self.rest()?;
+        let (field, left) = fields::cut(self.field, b' ');
+        self.field = field;
+        self.left = left;
+        if field.is_empty() {
+            return Err(Fault::Missing);
+        }
+        Ok(())
+    }
+
+    // A number; 0 for one of more than 32 bits.
+    fn number(&mut self) -> Result<u32, Fault> {
+        self.next()?;
+        self.read_number()
+    }
+
+    fn read_number(&mut self) -> Result<u32, Fault> {
+        match fields::number(self.field) {
+            Err(Fault::TooGreat) => {
+                self.great = true;
+                Ok(0)
+            }
+            n => n,
         }
     }
-    t
-}
 
-// What is read, with one more field.
-fn with_field(t: Task, field: Reading, at: usize, name: usize) -> Task {
-    let mut u = t;
-    u.fault = field.fault;
-    u.name = name;
-    if field.fault == fields::ENDED {
-        return u;
+    // A number that is a byte: that of a unit, or a sample.
+    fn byte(&mut self) -> Result<u8, Fault> {
+        let n = self.number()?;
+        self.great = self.great || u32::from(u8::MAX) < n;
+        Ok(u8::try_from(n).unwrap_or(0))
     }
-    if field.fault == fields::TOO_GREAT {
-        u.great = true;
-        u.fault = fields::FINE;
-    }
-    u.at = at;
-    u.a = t.b;
-    u.b = t.c;
-    u.c = field.value;
-    u
-}
 
-// The field of a name at a place of a line.
-fn read_field(name: &[u8], line: &[u8], at: usize, great: bool) -> Reading {
-    let kind = row_of(&KINDS, name);
-    let rest = fields::rest(line, at);
-    if kind == KIND_END {
-        return end_of(line.len() < at);
+    // The bytes of an answer buffer.
+    fn room(&mut self) -> Result<usize, Fault> {
+        let n = self.number()? as usize;
+        self.great = self.great || state::ROOM_MOST < n;
+        Ok(n)
     }
-    if kind == KIND_LIST {
-        return read_list(rest, line.len() < at, great);
-    }
-    if line.len() < at {
-        return fields::wrong(fields::MISSING);
-    }
-    if kind == KIND_TEXT {
-        return fields::read_as(fields::LAST, 0);
-    }
-    value_of(kind, fields::field_at(rest, 0))
-}
 
-// The end of a form, where no field should be left.
-fn end_of(is_end: bool) -> Reading {
-    fields::wrong(if is_end {
-        fields::ENDED
-    } else {
-        fields::TOO_MANY
-    })
-}
+    // A sample and milliseconds.
+    fn course(&mut self, told: bool) -> Result<Course, Fault> {
+        let sample = self.byte()?;
+        let ms = self.number()?;
+        Ok(Course { sample, ms, told })
+    }
 
-// A list, which may be missing; behind a number that is too great none is read.
-fn read_list(list: &[u8], is_missing: bool, great: bool) -> Reading {
-    if fields::field_at(list, 0).len() == 0 {
-        return fields::wrong(if is_missing && !great {
-            fields::LAST
-        } else {
-            fields::MISSING
-        });
+    // Speed, acceleration and microsteps of a ramp, or those of an endless one.
+    fn ramp(&mut self) -> Result<Task, Fault> {
+        let v = self.number()?;
+        let l = self.number()?;
+        if !self.great && self.left.unwrap_or(b"") == b"endless".as_slice() {
+            self.left = None;
+            return Ok(Task::Call(Call::Ramp { v, l, n: None }));
+        }
+        let n = Some(self.number()?);
+        Ok(Task::Call(Call::Ramp { v, l, n }))
     }
-    let count = if great { 0 } else { list::count_of(list) };
-    if count == 0 {
-        return fields::wrong(fields::NO_LIST);
-    }
-    fields::read_as(fields::LAST, count as u64)
-}
 
-// What a field reads as, by the place of its kind among KINDS: HEX, RUN, SLOT, SEQ; else it is a number.
-fn value_of(kind: usize, field: &[u8]) -> Reading {
-    if field.len() == 0 {
-        return fields::wrong(fields::MISSING);
+    // A slot, or `-` for none.
+    fn slot(&mut self) -> Result<Option<u32>, Fault> {
+        self.next()?;
+        if self.field == b"-".as_slice() {
+            return Ok(None);
+        }
+        Ok(Some(self.read_number()?))
     }
-    match kind {
-        0 => fields::hex(field),
-        1 => fields::run(field),
-        2 => fields::slot(field),
-        3 => fields::sequence(field),
-        _ => fields::number(field),
-    }
-}
 
-// Whether a ramp is that of an endless move.
-fn is_endless(table: &[u8], line: &[u8], t: Task) -> bool {
-    if t.row != RAMP {
-        return false;
+    // `R`, or `-` for none.
+    fn run(&mut self) -> Result<bool, Fault> {
+        self.next()?;
+        match self.field {
+            b"R" => Ok(true),
+            b"-" => Ok(false),
+            _ => Err(Fault::NoRun),
+        }
     }
-    if t.great {
-        return false;
-    }
-    if fields::byte_at(table, t.name) != b'N' {
-        return false;
-    }
-    fields::rest(line, t.at) == b"endless".as_slice()
-}
 
-// The same task by another row.
-fn task_of(row: usize, t: Task) -> Task {
-    let mut u = t;
-    u.row = row;
-    u
-}
-
-// A task as it is for the unit of a number; 0 where there is none.
-pub(crate) fn for_unit(t: Task, number: u8) -> Task {
-    if number != 0 {
-        return t;
+    // A byte of two hex digits.
+    fn sequence(&mut self) -> Result<u8, Fault> {
+        self.next()?;
+        fields::byte(self.field).ok_or(Fault::NoHex)
     }
-    if needs_unit(t.row) {
-        return task_of(telling::NO_UNIT, t);
-    }
-    t
-}
 
-// Whether an operation is one on a unit.
-fn needs_unit(row: usize) -> bool {
-    match row {
-        FEED => true,
-        TURN => true,
-        RUN => true,
-        TIMELINE => true,
-        UNIT => true,
-        OEM => true,
-        TYPED => true,
-        _ => false,
+    // Bytes in hex.
+    fn hex(&mut self) -> Result<(), Fault> {
+        self.next()?;
+        self.form = Form::Hex;
+        fields::check_hex(self.field)
+    }
+
+    // A list of commands, which may be missing; behind a number that is too great none is read.
+    fn list(&mut self) -> Result<(), Fault> {
+        if self.left.is_none() && !self.great {
+            self.field = b"";
+            return Ok(());
+        }
+        self.rest()?;
+        if matches!(self.field, [] | [b' ', ..]) {
+            return Err(Fault::Missing);
+        }
+        if self.great || list::read(self.field, &mut []).is_none() {
+            return Err(Fault::BadCommand);
+        }
+        Ok(())
     }
 }
 
-// What was read, or why it is none of the operations.
-fn judged(t: Task) -> Task {
-    if t.fault < fields::LAST {
-        return reason(t.fault, t.name);
+// The names of the fields of an operation, with what follows them in its form.
+fn names_of(word: &[u8]) -> &'static [u8] {
+    for form in table().split(|b| *b == b'\n') {
+        let (first, names) = fields::cut(form, b' ');
+        if first == word {
+            return names.unwrap_or(b"");
+        }
     }
-    if t.great {
-        return reason(fields::TOO_GREAT, 0);
-    }
-    if is_too_great(t) {
-        return reason(fields::TOO_GREAT, 0);
-    }
-    t
-}
-
-// Of a line that is none of the operations: why.
-fn reason(fault: usize, name: usize) -> Task {
-    blank_task(telling::REASON, fault as u64, name)
-}
-
-// Whether a number of 32 bits, or an image, is too great.
-fn is_too_great(t: Task) -> bool {
-    let row = t.row;
-    match row {
-        IMAGE => 2 * (state::IMAGE_MOST as u64) < t.c,
-        ROOM => (state::ROOM_MOST as u64) < t.c,
-        START => BYTE_MOST < t.c,
-        TURN => BYTE_MOST < t.a,
-        RUN => BYTE_MOST < t.b,
-        TIMELINE => BYTE_MOST < t.b,
-        _ => false,
-    }
+    b""
 }

@@ -1,21 +1,25 @@
-// What the bench holds beside the bytes that it lends: those of image and answer buffer, and the two texts of the unit.
+// What the bench holds: a unit, and the bytes that it lends. Each of them lies for itself: of bytes that lie in one struct and are lent
+// to the same functions `chip/pointer-places` does not find the end.
+use crate::bytes::Bytes;
 use drive::Record;
 
-#[derive(Clone, Copy)]
-pub(crate) struct Bench {
-    // Its number is 0 until a start is not refused.
-    pub(crate) unit: Record,
-    // How many bytes of the image, and of the answer buffer, are lent.
-    pub(crate) image_bytes: usize,
-    pub(crate) room: usize,
+#[derive(Drop)]
+pub(crate) struct Bench<'a> {
+    // None until a start is not refused.
+    pub(crate) unit: Option<Record>,
+    // The image and the answer buffer.
+    pub(crate) image: &'a mut Bytes<IMAGE_MOST>,
+    pub(crate) buffer: &'a mut Bytes<ROOM_MOST>,
+    // The body being received, and the current text.
+    pub(crate) body: &'a mut [u8; BODY_BYTES],
+    pub(crate) text: &'a mut [u8; TEXT_BYTES],
 }
 
-// The bytes lent for the body being received, and for the current text.
 pub(crate) const BODY_BYTES: usize = 257;
 
 pub(crate) const TEXT_BYTES: usize = 256;
 
-// The most bytes of an image, and of the one with all slots empty.
+// The most bytes of an image, and those of the one with all slots empty.
 pub(crate) const IMAGE_MOST: usize = 4200;
 
 const EMPTY_BYTES: usize = 4160;
@@ -26,29 +30,29 @@ pub(crate) const ROOM_MOST: usize = 512;
 const FIRST_ROOM: usize = 262;
 
 // What an answer buffer holds before anything is written in it.
-pub(crate) const BLANK: u8 = 0xa5;
+const BLANK: u8 = 0xa5;
 
-// The bench at its beginning: the image with all slots empty, and no unit but the record of a refused start.
-pub(crate) fn begin(body: &mut [u8; BODY_BYTES], text: &mut [u8; TEXT_BYTES]) -> Bench {
-    let none = drive::start(0, b"", body, text);
-    let unit = none.unit;
-    Bench {
-        unit: unit,
-        image_bytes: EMPTY_BYTES,
-        room: FIRST_ROOM,
+impl Bench<'_> {
+    // The bench at its beginning lends the image with all slots empty.
+    pub(crate) fn begin(&mut self) {
+        self.lend_empty();
+        self.lend_room(FIRST_ROOM);
     }
-}
 
-// Makes the image the one with all slots empty: its length.
-pub(crate) fn empty(image: &mut [u8]) -> usize {
-    if EMPTY_BYTES <= image.len() {
-        image::clear(&mut image[0..EMPTY_BYTES]);
+    // Lends these bytes as the image.
+    pub(crate) fn lend_image(&mut self, bytes: &[u8]) {
+        self.image.clear();
+        self.image.add(bytes);
     }
-    EMPTY_BYTES
-}
 
-// Makes the answer buffer one in which nothing was written.
-pub(crate) fn blank(buffer: &mut [u8]) {
-    let blanks = [BLANK; ROOM_MOST];
-    parts::put_at(buffer, 0, &blanks);
+    // Lends the image with all slots empty.
+    pub(crate) fn lend_empty(&mut self) {
+        self.image.fill(0, EMPTY_BYTES);
+        image::clear(self.image.as_mut_slice());
+    }
+
+    // Lends an answer buffer of so many bytes, in which nothing was written.
+    pub(crate) fn lend_room(&mut self, n: usize) {
+        self.buffer.fill(BLANK, n);
+    }
 }

@@ -1,189 +1,90 @@
-// Answers: each is a row of one table, filled with numbers and bytes.
-//
-// In a row `#` is the next number in decimal, `~` in two hex digits, `^` in sixteen, and `_` passes one over. `*` is the bytes in
-// hex, `-` where there are none, and `$` the bytes as they are. Of `[one|another]` the next number says which, from 0 on.
+// Answers: a line each, which a form and what fills it make, written in one write. `println!` is none of the forms that
+// `chip/pointer-places` follows, and the bench runs on chips too.
 ghost use Rattle.std.specs.Prelude.{◌≡◌, ◌<◌, ◌≤◌, drop, false};
 ghost use Rattle.std.specs.Fmt.{digits, digit_glyph};
 
-use crate::fields::LF;
-use crate::{fields, state};
+use crate::bytes::Bytes;
+use crate::fields::Fault;
+use crate::state;
+use commands::Fault as Refusal;
 use std::io;
 
-// The most numbers of a row.
-const MOST_NUMBERS: usize = 18;
-
-// The rows past those of the operations, which stand in the order of their forms.
-pub(crate) const NO_UNIT: usize = 24;
-
-pub(crate) const REASON: usize = 25;
-
-pub(crate) const TURN_LINE: usize = 26;
-
-const ROWS_BYTES: usize = 1411;
-
-const ROWS: [u8; ROWS_BYTES] = *b"image #
-image #
-room _#
-buffer *
-[started|refused unit-number|refused image-length|refused image-bad]
-[fed # *|refused buffer|refused image-length]
-[act none|act up #|act down #|refused image-length|refused sample|refused steps]
-[ran # idle #|ran # waits|ran # busy|refused image-length|refused sample]
-[ran # idle #|ran # waits|ran # busy|refused image-length|refused sample]
-unit [idle|running] code=# position=# known=# V=# L=# j=# o=# m=# h=# f=# F=# J=# baud=# sample=# last=[-_|#] speed=# text=*
-store *
-[line #][| #]
-text [bad|ok]
-[ramp # # ^ ^ ^|refused V|refused L|refused N]
-[ramp # # ^ ^ ^|refused V|refused L|refused N]
-[wrote *_|refused buffer_|refused #][| #]
-[packet ~ *|refused packet]
-[-_|refused buffer_|refused image-length_|idle #|busy #][| $]
-[count #|refused letter_|refused count_|refused #][| #]
-heard $
-[older * slowed=#|refused letter #|refused operand #|refused structure #|refused commands #|refused buffer]
-[newer * slowed=#|refused letter #|refused operand #|refused structure #|refused commands #|refused buffer]
-[-_|refused buffer_|refused image-length_|idle #|busy #][| $]
-$
-no unit
-?[ no such operation| a field too many| too great| $ is missing| $ is not a number| $ has an odd digit| $ is not hex| $ is neither R nor -| $ has a bad command]
-turn #: at # [end|-|$], position #[?|], wait [none_|move #|endless #|away #|toward #|delay #|input ~], [act none|act up #|act down #]
-";
-
-// Room for the digits of a number; the most that it has in hex.
+// Room for the digits of a number.
 const DIGITS_ROOM: usize = 64;
-
-const HEX_MOST: usize = 16;
 
 // The longest answer is `store` of the longest image.
 const ANSWER_BYTES: usize = 6 + 2 * state::IMAGE_MOST + 1;
 
-// Writes a row with at most four numbers and no bytes.
-pub(crate) fn say(rt: &impl Print, row: usize, a: u64, b: u64, c: u64, d: u64) -> io::Result<()> {
-    say_of(rt, row, a, b, c, d, b"")
+// A line of answer as it is made.
+#[derive(Drop)]
+pub(crate) struct Answer {
+    line: Bytes<ANSWER_BYTES>,
 }
 
-// The same with bytes.
-pub(crate) fn say_of(
-    rt: &impl Print,
-    row: usize,
-    a: u64,
-    b: u64,
-    c: u64,
-    d: u64,
-    bytes: &[u8],
-) -> io::Result<()> {
-    let numbers = [a, b, c, d];
-    print(rt, row, &numbers, bytes)
-}
+impl Answer {
+    pub(crate) fn new() -> Answer {
+        Answer { line: Bytes::new() }
+    }
 
-// Writes a row, filled, in one write.
-pub(crate) fn print(rt: &impl Print, row: usize, numbers: &[u64], bytes: &[u8]) -> io::Result<()> {
-    let mut out = [0u8; ANSWER_BYTES];
-    let n = fill(&ROWS, row, numbers, bytes, &mut out);
-    let end = fields::least(n, ANSWER_BYTES);
-    rt.write_all(&out[0..end])
-}
-
-// Fills a row, up to and with its LF: how many bytes.
-fn fill(rows: &[u8], row: usize, numbers: &[u64], bytes: &[u8], out: &mut [u8]) -> usize {
-    let mut from = fields::past_nth(rows, 0, row, LF);
-    let mut used = 0;
-    let mut at = 0;
-    for _ in 0..rows.len() {
-        let mark = fields::byte_at(rows, from);
-        let n = number_at(numbers, used);
-        from = next_place(rows, from, mark, n);
-        used = next_number(used, mark);
-        at = add_mark(out, at, mark, n, bytes);
-        if mark == LF {
-            return at;
+    // Adds a form, filled: `#` is the next number in decimal, `~` in two hex digits, `^` in sixteen; `*` is the bytes in hex, `-` where
+    // there are none, and `$` the bytes as they are.
+    pub(crate) fn add(&mut self, form: &[u8], numbers: &[u64], bytes: &[u8]) {
+        let mut left = numbers;
+        for mark in form {
+            let (n, others) = match left {
+                [n, others @ ..] if matches!(*mark, b'#' | b'~' | b'^') => (*n, others),
+                _ => (0, left),
+            };
+            left = others;
+            add_mark(&mut self.line, *mark, n, bytes);
         }
     }
-    at
-}
 
-// The number at a place, 0 past the end.
-fn number_at(numbers: &[u64], at: usize) -> u64 {
-    if at < numbers.len() { numbers[at] } else { 0 }
-}
+    // Adds a text.
+    pub(crate) fn add_text(&mut self, text: &[u8]) {
+        self.line.add(text);
+    }
 
-// The place in the rows behind a mark and its number: at `[` that of the text which is chosen; at the `|` behind such a text the
-// place past its `]`.
-fn next_place(rows: &[u8], from: usize, mark: u8, n: u64) -> usize {
-    let after = fields::past(rows, from, mark);
-    match mark {
-        b'[' => fields::past_nth(rows, after, n as usize, b'|'),
-        b'|' => fields::past(rows, after, b']'),
-        _ => after,
+    // Tells it.
+    pub(crate) fn tell(&mut self, rt: &impl Print) -> io::Result<()> {
+        self.line.add(b"\n");
+        rt.write_all(self.line.as_slice())
     }
 }
 
-// How many numbers are used behind a mark.
-fn next_number(used: usize, mark: u8) -> usize {
-    if MOST_NUMBERS <= used {
-        return used;
-    }
-    match mark {
-        b'#' => used + 1,
-        b'~' => used + 1,
-        b'^' => used + 1,
-        b'_' => used + 1,
-        b'[' => used + 1,
-        _ => used,
-    }
+// Tells an answer that is a text alone.
+pub(crate) fn say(rt: &impl Print, text: &[u8]) -> io::Result<()> {
+    let mut a = Answer::new();
+    a.add_text(text);
+    a.tell(rt)
+}
+
+// Tells an answer that is one form, filled.
+pub(crate) fn tell(rt: &impl Print, form: &[u8], numbers: &[u64], bytes: &[u8]) -> io::Result<()> {
+    let mut a = Answer::new();
+    a.add(form, numbers, bytes);
+    a.tell(rt)
 }
 
 // Adds what a mark stands for; most stand for themselves.
-fn add_mark(out: &mut [u8], at: usize, mark: u8, n: u64, bytes: &[u8]) -> usize {
+fn add_mark(out: &mut Bytes<ANSWER_BYTES>, mark: u8, n: u64, bytes: &[u8]) {
     match mark {
-        b'#' => add_decimal(out, at, n),
-        b'~' => add_hex(out, at, n, 2),
-        b'^' => add_hex(out, at, n, 16),
-        b'*' => add_bytes(out, at, bytes),
-        b'$' => add(out, at, bytes),
-        b'_' => at,
-        b'[' => at,
-        b'|' => at,
-        b']' => at,
-        _ => add_byte(out, at, mark),
+        b'#' => add_number(out, n, 10, 1),
+        b'~' => add_number(out, n, 16, 2),
+        b'^' => add_number(out, n, 16, 16),
+        b'*' => add_bytes(out, bytes),
+        b'$' => out.add(bytes),
+        _ => out.add(&[mark]),
     }
 }
 
-// The place past a text put at a place; where there is no room for it, the place itself.
-pub(crate) fn add(out: &mut [u8], at: usize, text: &[u8]) -> usize {
-    if out.len() < at {
-        return at;
-    }
-    if out.len() - at < text.len() {
-        return at;
-    }
-    parts::put_at(out, at, text);
-    at + text.len()
-}
-
-// Adds one byte.
-fn add_byte(out: &mut [u8], at: usize, byte: u8) -> usize {
-    if out.len() <= at {
-        return at;
-    }
-    out[at] = byte;
-    at + 1
-}
-
-// Adds a number in decimal.
-fn add_decimal(out: &mut [u8], at: usize, n: u64) -> usize {
+// Adds a number in a base up to 16, with at least so many digits.
+fn add_number(out: &mut Bytes<ANSWER_BYTES>, n: u64, base: u64, width: usize)
+    requires { (2 ≤ base) × (base ≤ 16) }
+{
     let mut digits = [b'0'; DIGITS_ROOM];
-    let from = put_digits(n, 10, &mut digits);
-    add(out, at, &digits[from..])
-}
-
-// Adds a number in hex, with at least so many digits.
-fn add_hex(out: &mut [u8], at: usize, n: u64, width: usize) -> usize {
-    let mut digits = [b'0'; DIGITS_ROOM];
-    let from = put_digits(n, 16, &mut digits);
-    let most = DIGITS_ROOM - fields::least(width, HEX_MOST);
-    add(out, at, &digits[fields::least(from, most)..])
+    let from = put_digits(n, base, &mut digits);
+    out.add(&digits[from.min(DIGITS_ROOM.saturating_sub(width))..]);
 }
 
 // Puts the digits of a number, in a base up to 16, at the end of the bytes: where they begin.
@@ -218,18 +119,36 @@ fn digit(d: u64) -> u8
 }
 
 // Adds bytes in hex; no bytes is `-`.
-fn add_bytes(out: &mut [u8], at: usize, bytes: &[u8]) -> usize {
-    if bytes.len() == 0 {
-        return add_byte(out, at, b'-');
+fn add_bytes(out: &mut Bytes<ANSWER_BYTES>, bytes: &[u8]) {
+    if bytes.is_empty() {
+        out.add(b"-");
     }
-    let mut next = at;
-    for i in 0..bytes.len() {
-        next = add_hex(out, next, wide(bytes[i]), 2);
+    for b in bytes {
+        add_number(out, u64::from(*b), 16, 2);
     }
-    next
 }
 
-// A byte as a number.
-fn wide(x: u8) -> u64 {
-    x as u64
+// Tells words, a code, and the place of the fault where it has one.
+pub(crate) fn tell_refused(rt: &impl Print, words: &[u8], refusal: Refusal) -> io::Result<()> {
+    let code = u64::from(refusal.code);
+    if refusal.place == 0 {
+        return tell(rt, b"$ #", &[code], words);
+    }
+    tell(rt, b"$ # #", &[code, refusal.place as u64], words)
+}
+
+// Tells why a line is none of the operations, with the name of the field that is wrong.
+pub(crate) fn tell_fault(rt: &impl Print, fault: Fault, name: &[u8]) -> io::Result<()> {
+    let form = match fault {
+        Fault::NoOperation => b"? no such operation".as_slice(),
+        Fault::TooMany => b"? a field too many",
+        Fault::TooGreat => b"? too great",
+        Fault::Missing => b"? $ is missing",
+        Fault::NoNumber => b"? $ is not a number",
+        Fault::OddHex => b"? $ has an odd digit",
+        Fault::NoHex => b"? $ is not hex",
+        Fault::NoRun => b"? $ is neither R nor -",
+        Fault::BadCommand => b"? $ has a bad command",
+    };
+    tell(rt, form, &[], name)
 }

@@ -1,273 +1,166 @@
 // The operations on the unit, and what they answer.
-use crate::forms::Task;
-use crate::{calls, course, fields, forms, state, telling};
-use answers::Found;
-use drive::{FeedAnswer, Last, Record, StartAnswer, TurnAnswer};
+use crate::forms::OnUnit;
+use crate::state::Bench;
+use crate::telling::{Answer, say, tell};
+use crate::{calls, course};
+use drive::{Fed, FeedRefused, Record, StartRefused, TurnRefused};
 use std::io;
-use turns::{Core, Direction};
+use turns::{Action, Direction};
 
-// Does an operation with the bytes that it gives, and with the image and the buffer that are lent, and tells its answer.
+// Does an operation with the bytes that it gives, and tells its answer; where there is no unit, that.
 pub(crate) fn perform(
     rt: &impl Print,
-    u: Record,
-    t: Task,
+    b: &mut Bench<'_>,
+    operation: OnUnit,
     given: &[u8],
-    image: &mut [u8],
-    buffer: &mut [u8],
-    body: &mut [u8; state::BODY_BYTES],
-    text: &mut [u8; state::TEXT_BYTES],
-) -> io::Result<Record> {
-    if is_fed(t.row) {
-        return feed(rt, u, t.row, given, image, buffer, body, text);
-    }
-    if is_made(t.row) {
-        return make(rt, u, t, image, body, text);
-    }
-    calls::ask(rt, t, given, image, buffer)?;
-    Ok(u)
-}
-
-// Whether an operation feeds the bytes that it gives.
-fn is_fed(row: usize) -> bool {
-    match row {
-        forms::FEED => true,
-        forms::OEM => true,
-        forms::TYPED => true,
-        _ => false,
-    }
-}
-
-// Whether another operation is one on the unit.
-fn is_made(row: usize) -> bool {
-    match row {
-        forms::START => true,
-        forms::TURN => true,
-        forms::RUN => true,
-        forms::TIMELINE => true,
-        forms::UNIT => true,
-        _ => false,
-    }
-}
-
-// A start, turns, or the unit told.
-fn make(
-    rt: &impl Print,
-    u: Record,
-    t: Task,
-    image: &[u8],
-    body: &mut [u8; state::BODY_BYTES],
-    text: &mut [u8; state::TEXT_BYTES],
-) -> io::Result<Record> {
-    let row = t.row;
-    match row {
-        forms::START => start(rt, u, fields::byte_of(t.c), image, body, text),
-        forms::TURN => turn(rt, u, t, text, image),
-        forms::UNIT => tell(rt, u, text),
-        _ => course::run(rt, u, t, text, image),
-    }
-}
-
-// `start N`
-fn start(
-    rt: &impl Print,
-    u: Record,
-    number: u8,
-    image: &[u8],
-    body: &mut [u8; state::BODY_BYTES],
-    text: &mut [u8; state::TEXT_BYTES],
-) -> io::Result<Record> {
-    let s = drive::start(number, image, body, text);
-    let answer = s.answer;
-    let k = start_code(answer);
-    telling::say(rt, forms::START, k, 0, 0, 0)?;
-    Ok(started(k, u, s.unit))
-}
-
-// The number of an answer among those of its row.
-fn start_code(answer: StartAnswer) -> u64 {
-    match answer {
-        StartAnswer::Started => 0,
-        StartAnswer::UnitNumber => 1,
-        StartAnswer::ImageLength => 2,
-        StartAnswer::ImageBad => 3,
-    }
-}
-
-// The unit after a start; a refused one leaves it as it was.
-fn started(k: u64, u: Record, v: Record) -> Record {
-    if k == 0 {
-        return v;
-    }
-    u
-}
-
-// Bytes fed in one call.
-fn feed(
-    rt: &impl Print,
-    u: Record,
-    row: usize,
-    bytes: &[u8],
-    image: &mut [u8],
-    buffer: &mut [u8],
-    body: &mut [u8; state::BODY_BYTES],
-    text: &mut [u8; state::TEXT_BYTES],
-) -> io::Result<Record> {
-    let f = drive::feed(u, body, text, bytes, image, buffer);
-    let answer = f.answer;
-    tell_feed(
-        rt,
-        row,
-        feed_code(answer),
-        f.consumed,
-        parts::first(buffer, f.answered),
-    )?;
-    Ok(f.unit)
-}
-
-// The number of an answer among those of its rows.
-fn feed_code(answer: FeedAnswer) -> u64 {
-    match answer {
-        FeedAnswer::Taken => 0,
-        FeedAnswer::BufferShort => 1,
-        FeedAnswer::ImageLength => 2,
-    }
-}
-
-// How many bytes were consumed, and the answer; of a typed line the answer alone, as text.
-fn tell_feed(
-    rt: &impl Print,
-    row: usize,
-    k: u64,
-    consumed: usize,
-    answered: &[u8],
 ) -> io::Result<()> {
-    if row == forms::FEED {
-        return telling::say_of(rt, row, k, consumed as u64, 0, 0, answered);
+    let Some(u) = b.unit else {
+        return say(rt, b"no unit");
+    };
+    match operation {
+        OnUnit::Feed => match feed(b, u, given) {
+            Ok(f) => tell_fed(rt, f, b.buffer.as_slice()),
+            Err(refused) => tell_unfed(rt, refused),
+        },
+        OnUnit::Talk => match feed(b, u, given) {
+            Ok(f) => tell_packet(rt, parts::first(b.buffer.as_slice(), f.answered)),
+            Err(refused) => tell_unfed(rt, refused),
+        },
+        OnUnit::Turn { sample, ms, steps } => turn(rt, b, u, sample, ms, steps),
+        OnUnit::Run(c) => course::run(rt, b, u, c),
+        OnUnit::Tell => tell_unit(rt, u, &*b.text),
     }
-    if k != 0 {
-        return telling::say(rt, row, k, 0, 0, 0);
+}
+
+// `start N`; a refused one leaves the unit as it was.
+pub(crate) fn start(rt: &impl Print, b: &mut Bench<'_>, number: u8) -> io::Result<()> {
+    match drive::start(number, b.image.as_slice(), &mut *b.body, &mut *b.text) {
+        Ok(u) => {
+            b.unit = Some(u);
+            say(rt, b"started")
+        }
+        Err(StartRefused::UnitNumber) => say(rt, b"refused unit-number"),
+        Err(StartRefused::ImageLength) => say(rt, b"refused image-length"),
+        Err(StartRefused::ImageBad) => say(rt, b"refused image-bad"),
     }
-    tell_packet(rt, row, answered)
+}
+
+// Feeds bytes in one call.
+fn feed(b: &mut Bench<'_>, u: Record, bytes: &[u8]) -> Result<Fed, FeedRefused> {
+    let image = b.image.as_mut_slice();
+    let buffer = b.buffer.as_mut_slice();
+    let fed = drive::feed(u, &mut *b.body, &mut *b.text, bytes, image, buffer)?;
+    b.unit = Some(fed.unit);
+    Ok(fed)
+}
+
+// How many bytes were consumed, and the answer.
+fn tell_fed(rt: &impl Print, fed: Fed, buffer: &[u8]) -> io::Result<()> {
+    let answered = parts::first(buffer, fed.answered);
+    tell(rt, b"fed # *", &[fed.consumed as u64], answered)
+}
+
+// Why nothing is fed.
+fn tell_unfed(rt: &impl Print, refused: FeedRefused) -> io::Result<()> {
+    match refused {
+        FeedRefused::BufferShort => say(rt, b"refused buffer"),
+        FeedRefused::ImageLength => say(rt, b"refused image-length"),
+    }
 }
 
 // An answer as text; `-` where none came.
-fn tell_packet(rt: &impl Print, row: usize, answered: &[u8]) -> io::Result<()> {
-    let p = calls::read_either(answered);
-    let found = p.found;
-    let Found::OnePacket = found else {
-        return telling::say(rt, row, 0, 0, 0, 0);
+fn tell_packet(rt: &impl Print, answered: &[u8]) -> io::Result<()> {
+    let Some(p) = calls::read_either(answered) else {
+        return say(rt, b"-");
     };
-    let k = if p.idle { 3 } else { 4 };
     let data = parts::part(answered, p.at, p.length);
-    telling::say_of(rt, row, k, p.code as u64, (p.length != 0) as u64, 0, data)
+    let form = match (p.idle, data.is_empty()) {
+        (true, true) => b"idle #".as_slice(),
+        (true, false) => b"idle # $",
+        (false, true) => b"busy #",
+        (false, false) => b"busy # $",
+    };
+    tell(rt, form, &[u64::from(p.code)], data)
 }
 
 // `turn SAMPLE MS STEPS`
 fn turn(
     rt: &impl Print,
+    b: &mut Bench<'_>,
     u: Record,
-    t: Task,
-    text: &mut [u8; state::TEXT_BYTES],
-    image: &[u8],
-) -> io::Result<Record> {
-    let turned = drive::turn(
-        u,
-        text,
-        fields::byte_of(t.a),
-        fields::narrow(t.b),
-        fields::narrow(t.c),
-        image,
-    );
-    let action = turned.action;
-    let direction = action.direction;
-    let answer = turned.answer;
-    let k = turn_code(answer, direction);
-    telling::say(rt, forms::TURN, k, action.number as u64, 0, 0)?;
-    Ok(turned.unit)
-}
-
-// The number of an answer among those of its row; of a turn that is made, by its direction.
-fn turn_code(answer: TurnAnswer, direction: Direction) -> u64 {
-    match answer {
-        TurnAnswer::Taken => direction_code(direction),
-        TurnAnswer::ImageLength => 3,
-        TurnAnswer::Sample => 4,
-        TurnAnswer::Steps => 5,
+    sample: u8,
+    ms: u32,
+    steps: u32,
+) -> io::Result<()> {
+    match drive::turn(u, &mut *b.text, sample, ms, steps, b.image.as_slice()) {
+        Ok(turned) => {
+            b.unit = Some(turned.unit);
+            tell_action(rt, turned.action)
+        }
+        Err(TurnRefused::ImageLength) => say(rt, b"refused image-length"),
+        Err(TurnRefused::Sample) => say(rt, b"refused sample"),
+        Err(TurnRefused::Steps) => say(rt, b"refused steps"),
     }
 }
 
-// The number of a direction among those of an action.
-pub(crate) fn direction_code(direction: Direction) -> u64 {
-    match direction {
-        Direction::Still => 0,
-        Direction::Up => 1,
-        Direction::Down => 2,
-    }
-}
-
-// `unit`
-fn tell(rt: &impl Print, u: Record, text: &[u8]) -> io::Result<Record> {
-    let c = u.core;
-    let last = u.last;
-    tell_core(
+// What the motor is to do.
+fn tell_action(rt: &impl Print, action: Action) -> io::Result<()> {
+    tell(
         rt,
-        c,
-        is_number(last),
-        number_of(last),
-        parts::first(text, u.core.flow.length),
-    )?;
-    Ok(u)
+        words_of(action.direction),
+        &[u64::from(action.number)],
+        b"",
+    )
 }
 
-// Whether an OEM frame was not refused.
-fn is_number(last: Last) -> u64 {
-    match last {
-        Last::Never => 0,
-        Last::Number(_) => 1,
+// The words of an action with a direction.
+pub(crate) fn words_of(direction: Direction) -> &'static [u8] {
+    match direction {
+        Direction::Still => b"act none",
+        Direction::Up => b"act up #",
+        Direction::Down => b"act down #",
     }
 }
 
-// The number of the last one; 0 for none.
-fn number_of(last: Last) -> u64 {
-    match last {
-        Last::Never => 0,
-        Last::Number(n) => n as u64,
-    }
-}
-
-// The numbers of a unit, in the order of their names, and its text.
-fn tell_core(rt: &impl Print, c: Core, is_last: u64, last: u64, text: &[u8]) -> io::Result<()> {
-    let known = c.motor.known as u64;
-    let sample = c.motor.sample as u64;
+// `unit`: the record by names, and the current text.
+fn tell_unit(rt: &impl Print, u: Record, text: &[u8]) -> io::Result<()> {
+    let c = u.core;
+    let s = c.settings;
     let numbers = [
-        c.running as u64,
-        c.code as u64,
-        wide(c.motor.position),
-        known,
-        wide(c.settings.speed),
-        wide(c.settings.acceleration),
-        step_size(c.settings.exponent),
-        wide(c.settings.correction),
-        wide(c.settings.moving),
-        wide(c.settings.holding),
-        wide(c.settings.flag),
-        wide(c.settings.turned),
-        wide(c.settings.outputs),
-        wide(c.settings.baud),
-        sample,
-        is_last,
-        last,
-        c.endless as u64,
+        u64::from(c.code),
+        u64::from(c.motor.position),
+        u64::from(c.motor.known),
+        u64::from(s.speed),
+        u64::from(s.acceleration),
+        step_size(s.exponent),
+        u64::from(s.correction),
+        u64::from(s.moving),
+        u64::from(s.holding),
+        u64::from(s.flag),
+        u64::from(s.turned),
+        u64::from(s.outputs),
+        u64::from(s.baud),
+        u64::from(c.motor.sample),
     ];
-    telling::print(rt, forms::UNIT, &numbers, text)
-}
-
-// A number of 32 bits as one of 64.
-fn wide(n: u32) -> u64 {
-    n as u64
+    let mut a = Answer::new();
+    a.add_text(if c.running {
+        b"unit running"
+    } else {
+        b"unit idle"
+    });
+    let form =
+        b" code=# position=# known=# V=# L=# j=# o=# m=# h=# f=# F=# J=# baud=# sample=# last=";
+    a.add(form, &numbers, b"");
+    match u.last {
+        None => a.add_text(b"-"),
+        Some(n) => a.add(b"#", &[u64::from(n)], b""),
+    }
+    let text = parts::first(text, c.flow.length);
+    a.add(b" speed=# text=*", &[u64::from(c.endless)], text);
+    a.tell(rt)
 }
 
 // 2 to the kept exponent of `j`, as `?6` tells it.
 fn step_size(exponent: u32) -> u64 {
-    if exponent < 8 { 1 << exponent } else { 256 }
+    1 << exponent.min(8)
 }

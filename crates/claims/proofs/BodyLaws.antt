@@ -1,4 +1,6 @@
 -- Each body by itself: what kind of a body it is computes, and each kind is a few fields of its definition. Assumes nothing.
+use Rattle.commands.specs.declared.Fault.{Fault}
+use Rattle.std.specs.Prelude.{Result, Ok}
 use Prim.Native.Nat.{ℕ, min}
 use mathlib.Core.Path.{◌≡◌, refl, sym, ap, ◌∙◌}
 use mathlib.Core.List.{List, []}
@@ -32,7 +34,7 @@ given-up (Delay left) k = refl
 given-up (Input digits) k = refl
 
 module _ (c : Core) (text image : List ℕ) where
-  kind : (b : List ℕ) (k : Body) → body_of b ≡ k → body_obeyed b c ≡ kind_obeyed k b c
+  kind : (b : List ℕ) (k : Result Body Fault) → body_of b ≡ k → body_obeyed b c ≡ kind_obeyed k b c
   unfolding body_obeyed
   kind b k e = rw e
 
@@ -71,26 +73,26 @@ module _ (c : Core) (text image : List ℕ) where
   pub each-body : EachBody c text image
   unfolding body_of same one_of immediates immediate_in step_size after_clear
   each-body = record {
-    empty = makes [] c Tell.Nothing (kind [] Body.Empty refl);
-    status = makes (bytes "Q") c Tell.Nothing (kind (bytes "Q") (Body.Immediate Immediate.Status) refl);
-    position = makes (bytes "?0") c _ (kind (bytes "?0") (Body.Immediate Immediate.Position) refl);
-    speed = makes (bytes "?2") c _ (kind (bytes "?2") (Body.Immediate Immediate.Speed) refl);
-    sample = makes (bytes "?4") c _ (kind (bytes "?4") (Body.Immediate Immediate.Sample) refl);
-    endless = makes (bytes "?5") c _ (kind (bytes "?5") (Body.Immediate Immediate.EndlessSpeed) refl);
+    empty = makes [] c Tell.Nothing (kind [] (Ok Body.Empty) refl);
+    status = makes (bytes "Q") c Tell.Nothing (kind (bytes "Q") (Ok (Body.Immediate Immediate.Status)) refl);
+    position = makes (bytes "?0") c _ (kind (bytes "?0") (Ok (Body.Immediate Immediate.Position)) refl);
+    speed = makes (bytes "?2") c _ (kind (bytes "?2") (Ok (Body.Immediate Immediate.Speed)) refl);
+    sample = makes (bytes "?4") c _ (kind (bytes "?4") (Ok (Body.Immediate Immediate.Sample)) refl);
+    endless = makes (bytes "?5") c _ (kind (bytes "?5") (Ok (Body.Immediate Immediate.EndlessSpeed)) refl);
     step_size_lem = λ h. let z : min c.settings.exponent 8 ≡ c.settings.exponent = omega arith in
-        rw z at (makes (bytes "?6") c _ (kind (bytes "?6") (Body.Immediate Immediate.StepSize) refl));
-    correction = makes (bytes "?7") c _ (kind (bytes "?7") (Body.Immediate Immediate.Correction) refl);
-    current = makes (bytes "$") c Tell.Text (kind (bytes "$") (Body.Immediate Immediate.CurrentText) refl);
-    clears = λ r. rw (kind (bytes "?9") (Body.Immediate Immediate.Clear) refl, r);
-    clears-only = let e = kind (bytes "?9") (Body.Immediate Immediate.Clear) refl in (
+        rw z at (makes (bytes "?6") c _ (kind (bytes "?6") (Ok (Body.Immediate Immediate.StepSize)) refl));
+    correction = makes (bytes "?7") c _ (kind (bytes "?7") (Ok (Body.Immediate Immediate.Correction)) refl);
+    current = makes (bytes "$") c Tell.Text (kind (bytes "$") (Ok (Body.Immediate Immediate.CurrentText)) refl);
+    clears = λ r. rw (kind (bytes "?9") (Ok (Body.Immediate Immediate.Clear)) refl, r);
+    clears-only = let e = kind (bytes "?9") (Ok (Body.Immediate Immediate.Clear)) refl in (
       ap (λ (o : Obeyed). o.core) e,
       ap (λ (o : Obeyed). text_written o.write (bytes "?9") text) e,
       ap (λ (o : Obeyed). data_of o.tell o.core.flow.length (text_written o.write (bytes "?9") text)) e,
     );
-    idle_t = λ h. makes (bytes "T") c Tell.Nothing (kind (bytes "T") (Body.Immediate Immediate.Terminate) refl ∙ rw h);
-    stops = λ h. turns_to (bytes "T") (ended c.code c) (kind (bytes "T") (Body.Immediate Immediate.Terminate) refl ∙ rw h) is_stopped;
-    tr_is_t = kind (bytes "TR") (Body.Immediate Immediate.Terminate) refl ∙ sym (kind (bytes "T") (Body.Immediate Immediate.Terminate) refl);
-    resumes = λ digits h w. turns_to (bytes "R") (with_motor (waiting Nothing c.motor) c) (kind (bytes "R") Body.Run refl ∙ rw (h, w)) (record {
+    idle_t = λ h. makes (bytes "T") c Tell.Nothing (kind (bytes "T") (Ok (Body.Immediate Immediate.Terminate)) refl ∙ rw h);
+    stops = λ h. turns_to (bytes "T") (ended c.code c) (kind (bytes "T") (Ok (Body.Immediate Immediate.Terminate)) refl ∙ rw h) is_stopped;
+    tr_is_t = kind (bytes "TR") (Ok (Body.Immediate Immediate.Terminate)) refl ∙ sym (kind (bytes "T") (Ok (Body.Immediate Immediate.Terminate)) refl);
+    resumes = λ digits h w. turns_to (bytes "R") (with_motor (waiting Nothing c.motor) c) (kind (bytes "R") (Ok Body.Run) refl ∙ rw (h, w)) (record {
       flow-same = refl;
       settings-same = refl;
       running-same = refl;
@@ -102,7 +104,7 @@ module _ (c : Core) (text image : List ℕ) where
       sample-same = refl;
       last-same = refl;
     });
-    runs = λ h l. turns_to (bytes "R") (started c.flow.length c) (kind (bytes "R") Body.Run refl ∙ rw (h, l)) is_started;
-    nothing-loaded = λ h l. makes (bytes "R") c Tell.Nothing (kind (bytes "R") Body.Run refl ∙ rw (h, l));
-    again = λ h. turns_to (bytes "X") (started c.flow.length c) (kind (bytes "X") Body.Again refl ∙ rw h) is_started;
+    runs = λ h l. turns_to (bytes "R") (started c.flow.length c) (kind (bytes "R") (Ok Body.Run) refl ∙ rw (h, l)) is_started;
+    nothing-loaded = λ h l. makes (bytes "R") c Tell.Nothing (kind (bytes "R") (Ok Body.Run) refl ∙ rw (h, l));
+    again = λ h. turns_to (bytes "X") (started c.flow.length c) (kind (bytes "X") (Ok Body.Again) refl ∙ rw h) is_started;
   }

@@ -1,5 +1,6 @@
 -- The held code of a reached unit is that of a cause, so it is none of the codes of a refused frame: an OEM frame that the order of checks takes
 -- sets the number. Assumes nothing.
+use Rattle.std.specs.Prelude.{Some}
 use Prim.Native.Nat.{ℕ}
 use mathlib.Core.Path.{◌≡◌, refl, sym, ap, subst, ◌∙◌}
 use mathlib.Core.List.{List}
@@ -15,7 +16,6 @@ use Rattle.turns.specs.Turns.{started}
 use Rattle.obeying.specs.declared.Obeyed.{Obeyed}
 use Rattle.obeying.specs.Obeying.{loaded_as}
 use Rattle.obeying.specs.Deeds.{Obeys, refuses, tells, stores, clears, stops, resumes, speeds, again, loads}
-use Rattle.drive.specs.declared.Last.{Last}
 use Rattle.drive.specs.Unit.{Drive}
 use Rattle.drive.specs.Repeats.{sequence_number, is_refusal}
 use Rattle.image.specs.Image.{slot_good}
@@ -96,7 +96,7 @@ unfolding one_of each
 no_refusal k e = not-true _ (each-one (λ n. not (is_refusal n)) cause_codes k refl e)
 
 pub sets-number : {u : Drive} → Reached u → (bytes image buffer : List ℕ) (q : ℕ) → Heeded image buffer → ours (received_by u bytes).frame ≡ true
-    → (received_by u bytes).framing ≡ Framing.Oem q → frame_code u bytes ≡ 0 → (feed_of u bytes image buffer).unit.last ≡ Last.Number (sequence_number q)
+    → (received_by u bytes).framing ≡ Framing.Oem q → frame_code u bytes ≡ 0 → (feed_of u bytes image buffer).unit.last ≡ Some (sequence_number q)
 sets-number {u} r bytes image buffer q h f g k =
     let o : Obeyed = obeyed_by u bytes in
     let core : (feed_of u bytes image buffer).unit.core ≡ o.core =

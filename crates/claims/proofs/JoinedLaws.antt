@@ -20,7 +20,8 @@ use Rattle.frames.specs.Receive.{most_kept, body_in, ours, good}
 use Rattle.frames.specs.Claims.{Sound, Whole, free, frame_of, oem_of, sum_of, FrameClaims}
 use Rattle.obeying.specs.declared.Obeyed.{Obeyed}
 use Rattle.obeying.specs.Obeying.{body_obeyed}
-use Rattle.drive.specs.declared.StartAnswer.{StartAnswer}
+use Rattle.drive.specs.StartAnswer
+use Rattle.drive.specs.StartAnswer.{StartAnswer}
 use Rattle.drive.specs.Unit.{Drive}
 use Rattle.drive.specs.Calls.{Starting, fresh_unit, start_of, received_by, body_by, frame_obeyed, obeyed_by, answer_to, Feeding, feed_taken, feed_of, Turning}
 use Rattle.drive.specs.Repeats.{is_query, chosen}

@@ -1,5 +1,6 @@
 -- "Order of checks for a frame": what is obeyed has its tests in this order, and each kind of body has its code.
 -- Assumes nothing.
+use Rattle.std.specs.Prelude.{Result, Ok, Err}
 use Prim.Native.Nat.{ℕ, zero, suc, ◌+◌, ◌≤◌, ◌<◌}
 use mathlib.Core.Path.{◌≡◌, refl, subst}
 use mathlib.Core.List.{List, [], ◌∷◌}
@@ -88,11 +89,11 @@ module _ (c : Core) where
   immediate_right Correction = obeys (Tell.Number _) Write.Nothing c
   immediate_right Clear = obeys Tell.Nothing Write.Clear c
 
-  line_right : (t : Taken) → TakenCode t → Right c (taken_fault t) (obeying.line_obeyed t c)
+  line_right : (t : Result Taken Fault) → TakenCode t → Right c (taken_fault t) (obeying.line_obeyed t c)
   unfolding table.one_of each
-  line_right (Taken.Refused f) e = refuses f (each-one (table.one_of (2 ∷ 3 ∷ 15 ∷ [])) (2 ∷ 3 ∷ []) f.code refl e)
-  line_right (Taken.Line n run) e = obeys Tell.Nothing (Write.Text n) _
-  line_right (Taken.Store slot at n) e = obeys Tell.Nothing (Write.Store slot at n) c
+  line_right (Err f) e = refuses f (each-one (table.one_of (2 ∷ 3 ∷ 15 ∷ [])) (2 ∷ 3 ∷ []) f.code refl e)
+  line_right (Ok (Taken.Line n run)) e = obeys Tell.Nothing (Write.Text n) _
+  line_right (Ok (Taken.Store slot at n)) e = obeys Tell.Nothing (Write.Store slot at n) c
 
   -- something obeyed, where a fault with the code 0 is told
   obeys_at : (f : Fault) → f.code ≡ 0 → (tell : Tell) (write : Write) (d : Core) → Right c f (obeying.obeyed d d.code tell write)
@@ -128,7 +129,7 @@ module _ (c : Core) where
 
   module _ (b : List ℕ) where
     -- a body of a kind, by what it begins with, whether it is immediate and whether it resumes
-    abbrev AsKind : (begins immediate resuming : Bool) → Body → Type 0
+    abbrev AsKind : (begins immediate resuming : Bool) → Result Body Fault → Type 0
     AsKind begins immediate resuming k =
         Right c (fault_for begins immediate c.running resuming (body_fault k b)) (obeying.kind_obeyed k b c)
 
@@ -144,7 +145,7 @@ module _ (c : Core) where
     other_right h f = go (same b []) (same b (82 ∷ [])) (same b (88 ∷ [])) refl refl refl
       where
         go : (e r x : Bool) → same b [] ≡ e → same b (82 ∷ []) ≡ r → same b (88 ∷ []) ≡ x
-            → AsKind false e ((r && waits_input c.motor.wait) || on_the_way c b) (cond e Body.Empty (cond r Body.Run (cond x Body.Again Body.Line)))
+            → AsKind false e ((r && waits_input c.motor.wait) || on_the_way c b) (cond e (Ok Body.Empty) (cond r (Ok Body.Run) (cond x (Ok Body.Again) (Ok Body.Line))))
         go true r x p q s = rw (and-false c.running) (obeys Tell.Nothing Write.Nothing c)
         go false true x p q s = rw (no_way c b 82 q refl) (run_right c.running (waits_input c.motor.wait) _ _)
         go false false true p q s = rw (no_way c b 88 s refl) (again_right c.running _)

@@ -9,12 +9,11 @@ use lib.ListN.{length, get_or}
 use lib.Dec.{leb}
 use borrow.Author.Tests.{le-leb, leb-true}
 use Rattle.answers.specs.Packet.{packet, status_of}
-use Rattle.answers.specs.Reading.{bit, printable, all_printable, good_data, packet_refused, read_of}
+use Rattle.answers.specs.Reading.{bit, printable, all_printable, good_data, read_of}
 use Rattle.answers.specs.Names.{found_name}
 use Rattle.answers.specs.Oem.{oem_sum, oem_tail, oem_packet, read_oem_of}
 use Rattle.answers.specs.declared.Packet.{Packet}
-use Rattle.answers.specs.declared.Found.{Found}
-use Rattle.answers.specs.declared.Found.TheVariants.{OnePacket, NotOnePacket}
+use Rattle.std.specs.Prelude.{Option, Some, None, IsSomeAnd}
 use Rattle.answers.specs.AnswerClaims.{carried, ToldAs, GenuineAs, AnswerClaims}
 use Rattle.claims.specs.Packets.{status_byte, Data, plain, oem_summed, One, one, PacketTold, ReadsPackets, PacketRow}
 
@@ -60,44 +59,50 @@ unfolding oem_packet oem_tail oem_sum
 summed_so status d = ap (λ (l : List ℕ). 0x02 ∷ 0x30 ∷ status ∷ l) (sym (append_assoc d (0x03 ∷ []) _))
 
 -- of either: what is made, as it is defined and as 01 says it, and its status
-module _ (defined make : ℕ → List ℕ → List ℕ) (read : List ℕ → Packet) (so : (status : ℕ) (d : List ℕ) → defined status d ≡ make status d)
+module _ (defined make : ℕ → List ℕ → List ℕ) (read : List ℕ → Option Packet) (so : (status : ℕ) (d : List ℕ) → defined status d ≡ make status d)
     (third : (status : ℕ) (d : List ℕ) → get_or (make status d) 2 0 ≡ status)
     (answers : AnswerClaims)
     (back : (idle : Bool) (code : ℕ) (d : List ℕ) → good_data d ≡ true
-    → ToldAs (read (defined (status_of idle code) d)) (defined (status_of idle code) d) idle code d)
-    (genuine : (s : List ℕ) → (read s).found ≡ OnePacket → GenuineAs defined (read s) s)
-    (zeros : (s : List ℕ) → (read s).found ≡ NotOnePacket → read s ≡ packet_refused) where
-  tells : (idle : Bool) (code : ℕ) (d : List ℕ) → code < 16 → Data d
-      → PacketTold (make (status_byte idle code) d) idle code d (read (make (status_byte idle code) d))
-  tells idle code d h g =
-      let e : defined (status_of idle code) d ≡ make (status_byte idle code) d = so _ d ∙ ap (λ (s : ℕ). make s d) (status_so idle code h) in
-      let k = back idle code d (data_good d g) in
-      let low : code % 16 ≡ code = omega arith in
-      subst (λ (s : List ℕ). PacketTold s idle code d (read s)) e
-      (record { named = ap found_name k.as_packet; as_idle = k.as_idle; as_code = k.as_code ∙ low; as_data = k.as_data })
+    → IsSomeAnd (read (defined (status_of idle code) d)) (λ p. ToldAs p (defined (status_of idle code) d) idle code d))
+    (genuine : (s : List ℕ) (p : Packet) → read s ≡ Some p → GenuineAs defined p s) where
+  -- what is told of one packet, and its name
+  abbrev Told : List ℕ → Bool → ℕ → List ℕ → Option Packet → Type 0
+  Told s idle code d r = (found_name r ≡ "exactly one packet") × IsSomeAnd r (λ p. PacketTold s idle code d p)
 
-  is_one : (s : List ℕ) → get_or s 2 0 < 256 → (read s).found ≡ OnePacket → One make s
-  is_one s h f =
-      let g = genuine s f in
-      let n : ℕ = (read s).status in
-      let d : List ℕ = carried (read s) s in
+  told : (s : List ℕ) (idle : Bool) (code : ℕ) (d : List ℕ) → code < 16 → (r : Option Packet) → IsSomeAnd r (λ p. ToldAs p s idle code d) → Told s idle code d r
+  told s idle code d h (Some p) k =
+      let low : code % 16 ≡ code = omega arith in
+      (refl, record { as_idle = k.as_idle; as_code = k.as_code ∙ low; as_data = k.as_data })
+  told s idle code d h None k = elim k [ ]
+
+  both : (idle : Bool) (code : ℕ) (d : List ℕ) → code < 16 → Data d
+      → Told (make (status_byte idle code) d) idle code d (read (make (status_byte idle code) d))
+  both idle code d h g =
+      let e : defined (status_of idle code) d ≡ make (status_byte idle code) d = so _ d ∙ ap (λ (s : ℕ). make s d) (status_so idle code h) in
+      subst (λ (s : List ℕ). Told s idle code d (read s)) e (told _ idle code d h _ (back idle code d (data_good d g)))
+
+  is_one : (s : List ℕ) → get_or s 2 0 < 256 → (p : Packet) → read s ≡ Some p → One make s
+  is_one s h p f =
+      let g = genuine s p f in
+      let n : ℕ = p.status in
+      let d : List ℕ = carried p s in
       let whole : s ≡ make n d = g.whole ∙ so n d in
       let small : n < 256 = subst (λ (m : ℕ). m < 256) (ap (λ (l : List ℕ). get_or l 2 0) whole ∙ third n d) h in
       let made : n ≡ status_byte (bit 5 n) (n % 16) = answers.status-only n small g.status-good ∙ status_so (bit 5 n) (n % 16) (omega arith) in
       subst (One make) (sym (whole ∙ ap (λ (m : ℕ). make m d) made)) (one (bit 5 n) (n % 16) d (omega arith) (good_data_lem d g.data_good))
 
-  refuses : (s : List ℕ) → get_or s 2 0 < 256 → (One make s → ⊥) → (found_name (read s).found ≡ "not exactly one packet") × (read s ≡ packet_refused)
-  refuses s h n = go (read s).found refl
+  refuses : (s : List ℕ) → get_or s 2 0 < 256 → (One make s → ⊥) → (found_name (read s) ≡ "not exactly one packet") × (read s ≡ None)
+  refuses s h n = go (read s) refl
     where
-      go : (f : Found) → (read s).found ≡ f → (found_name (read s).found ≡ "not exactly one packet") × (read s ≡ packet_refused)
-      go OnePacket e = absurd (n (is_one s h e))
-      go NotOnePacket e = (ap found_name e, zeros s e)
+      go : (r : Option Packet) → read s ≡ r → (found_name (read s) ≡ "not exactly one packet") × (read s ≡ None)
+      go (Some p) e = absurd (n (is_one s h p e))
+      go None e = (ap found_name e, e)
 
   reads : ReadsPackets make read
-  reads = record { tells = tells; refuses = refuses }
+  reads = record { named = λ i c d h g. (both i c d h g).0; tells = λ i c d h g. (both i c d h g).1; refuses = refuses }
 
 pub packet-row : AnswerClaims → PacketRow
 packet-row a = record {
-  in-plain = reads packet plain read_of plain_so (λ s d. refl) a a.reads_back a.nothing_else a.refused-zeros;
-  in-oem = reads oem_packet oem_summed read_oem_of summed_so (λ s d. refl) a a.reads_back_oem a.nothing_else_oem a.refused-zeros-oem;
+  in-plain = reads packet plain read_of plain_so (λ s d. refl) a a.reads_back a.nothing_else;
+  in-oem = reads oem_packet oem_summed read_oem_of summed_so (λ s d. refl) a a.reads_back_oem a.nothing_else_oem;
 }

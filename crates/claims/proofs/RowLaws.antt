@@ -1,10 +1,11 @@
 -- The outcomes of start, feed and turn: the definitions make their tests in the order of 01's table.
 -- Assumes nothing.
+use Rattle.std.specs.Prelude.{Option, Some, None, Result, Ok, Err, IsOk, is_err}
 use Prim.Native.Nat.{ℕ, zero, suc, ◌≤◌}
 use Prim.Native.String.{String}
 use mathlib.Core.Path.{◌≡◌, refl, sym, ap, ◌∙◌}
 use mathlib.Core.List.{List, [], ◌∷◌, ◌++◌}
-use mathlib.Core.Bool.{Bool, true, false, ◌||◌, and-eq-true_iff}
+use mathlib.Core.Bool.{Bool, true, false, ◌||◌, and-eq-true_iff, false≢true}
 use native.Mathlib.Omega.{arith}
 use lib.ListN.{length, drop}
 use lib.Dec.{eqb}
@@ -21,18 +22,22 @@ use Rattle.frames.specs.declared.Framing.{Framing}
 use Rattle.frames.specs.Addresses.{is_unit}
 use Rattle.frames.proofs.Addresses.{unit_is}
 use Rattle.answers.specs.Packet.{packet_bytes}
-use Rattle.ramp.specs.declared.Verdict.{Verdict}
-use Rattle.ramp.specs.declared.Verdict.TheVariants.{Taken, RefusedV, RefusedL, RefusedN}
+use Rattle.ramp.specs.declared.Figures.{Figures}
+use Rattle.ramp.specs.declared.Refused.{Refused}
+use Rattle.ramp.specs.declared.Refused.TheVariants.{V, L, N}
+use Rattle.ramp.specs.Ranges.{NWithin}
 use Rattle.ramp.specs.Ramp.{figures_of, verdict_name}
 use Rattle.ramp.specs.Claims.{When, Verdicts}
 use Rattle.obeying.specs.Obeying.{place_told, data_of}
 use Rattle.turns.specs.Turns.{fresh_core}
 use Rattle.drive.specs.Unit.{Drive}
-use Rattle.drive.specs.declared.Last.{Last}
 use Rattle.drive.specs.Repeats.{is_refusal, numbered_by}
-use Rattle.drive.specs.declared.StartAnswer.{StartAnswer}
-use Rattle.drive.specs.declared.FeedAnswer.{FeedAnswer}
-use Rattle.drive.specs.declared.TurnAnswer.{TurnAnswer}
+use Rattle.drive.specs.StartAnswer
+use Rattle.drive.specs.StartAnswer.{StartAnswer}
+use Rattle.drive.specs.FeedAnswer
+use Rattle.drive.specs.FeedAnswer.{FeedAnswer}
+use Rattle.drive.specs.TurnAnswer
+use Rattle.drive.specs.TurnAnswer.{TurnAnswer}
 use Rattle.drive.specs.Names.{start_name, feed_name, turn_name}
 use Rattle.drive.specs.Calls.{no_unit, fresh_unit, starting, start_of, received_by, body_by, packet_as, answer_to, feed_refused, feed_of, turn_refused, turn_of}
 use Rattle.drive.proofs.AnswerLaws.{packet-fits}
@@ -96,20 +101,26 @@ turn-row u sample ms steps image =
 
 -- ---- ramp
 
-pub ramp-row : ((v l : ℕ) (endless : Bool) (n : ℕ) → Verdicts v l endless n (figures_of v l endless n))
-    → (v l : ℕ) (endless : Bool) (n : ℕ) → RampRow v l endless n
-ramp-row outcome v l endless n = record {
-  v_outside = λ a. no RefusedV _ refl (λ e. let z : ◌≡◌ {A = ℕ} 0 1 = cc in absurd (omega arith)) a;
-  l_outside = λ a b. no RefusedL _ refl (λ e. let z : ◌≡◌ {A = ℕ} 0 1 = cc in absurd (omega arith)) (a, b);
-  n_outside = λ a b e d. no RefusedN _ refl (λ q. let z : ◌≡◌ {A = ℕ} 0 1 = cc in absurd (omega arith)) (a, b, e, d);
-  taken = λ a b d. ap verdict_name (((outcome v l endless n).exactly-when Taken).1 (record { within_v = a; within_l = b; within_n = d }));
+n_within : (steps : Option ℕ) → ((n : ℕ) → steps ≡ Some n → From 1 2147483647 n) → NWithin steps
+n_within None h = tt
+n_within (Some n) h = h n refl
+
+taken_name : (r : Result Figures Refused) → IsOk r → verdict_name r ≡ "taken"
+taken_name (Ok f) h = refl
+taken_name (Err why) h = absurd (false≢true h)
+
+pub ramp-row : ((v l : ℕ) (steps : Option ℕ) → Verdicts v l steps (figures_of v l steps)) → (v l : ℕ) (steps : Option ℕ) → RampRow v l steps
+ramp-row outcome v l steps = record {
+  v_outside = λ a. no V _ refl a;
+  l_outside = λ a b. no L _ refl (a, b);
+  n_outside = λ n a b e d. no N _ refl (a, b, rw e d);
+  taken = λ a b d. taken_name _ ((outcome v l steps).taken.1 (record { within_v = a; within_l = b; within_n = n_within steps d }));
 }
   where
-    no : (verdict : Verdict) (name : String) → verdict_name verdict ≡ name → (verdict ≡ Taken → ⊥) → When verdict v l endless n
-        → RampRefused name (figures_of v l endless n)
-    no verdict name e t w =
-        let q = ((outcome v l endless n).exactly-when verdict).1 w in
-        record { named = ap verdict_name q ∙ e; zeros = ((outcome v l endless n).refused (λ z. t (sym q ∙ z))).zero }
+    no : (why : Refused) (name : String) → verdict_name (Err why) ≡ name → When why v l steps → RampRefused name (figures_of v l steps)
+    no why name e w =
+        let q = ((outcome v l steps).exactly-when why).1 w in
+        record { named = ap verdict_name q ∙ e; zeros = ((outcome v l steps).refused (ap is_err q)).zero }
 
 -- ---- feed
 
@@ -135,7 +146,7 @@ refusal k e n =
     let h : eqb k 0 || is_refusal k ≡ true = each-one (λ m. eqb m 0 || is_refusal m) (0 ∷ 2 ∷ 3 ∷ 15 ∷ []) k refl e in
     rw (ne_eqb k 0 n) at h
 
-refused-last : (g : Framing) (k : ℕ) (last : Last) → is_refusal k ≡ true → numbered_by g k last ≡ last
+refused-last : (g : Framing) (k : ℕ) (last : Option ℕ) → is_refusal k ≡ true → numbered_by g k last ≡ last
 refused-last Framing.Plain k last e = refl
 refused-last (Framing.Oem q) k last e = rw e
 

@@ -1,4 +1,7 @@
 -- The endless speed is set by such a line on the way and by a `P0` or `D0` that is taken, and by no other deed. Assumes nothing.
+use Rattle.commands.specs.declared.Fault.{Fault}
+use Rattle.motor.specs.declared.stops.Stop.{Stop}
+use Rattle.std.specs.Prelude.{Result, Ok, Err, Option, Some, None}
 use Prim.Native.Nat.{ℕ, ◌+◌, ◌-◌, ◌≤◌}
 use mathlib.Core.Path.{◌≡◌, refl, sym, ap, subst, ◌∙◌}
 use mathlib.Core.List.{List, [], ◌∷◌}
@@ -29,14 +32,12 @@ use Rattle.commands.specs.Writing.{in_range}
 use Rattle.lines.specs.declared.Body.{Body}
 use Rattle.lines.specs.Bodies.{body_of, ends_with_r, body_fault, line_fault}
 use Rattle.image.specs.Image.{slot_good}
-use Rattle.flow.specs.declared.Flowed.{Flowed}
+use Rattle.flow.specs.declared.Flow.{Flow}
 use Rattle.flow.specs.Flow.{gone, loop_begun, loop_ended}
 use Rattle.motor.specs.declared.Wait.{Wait}
 use Rattle.motor.specs.declared.Motor.{Motor}
-use Rattle.motor.specs.declared.Moved.{Moved}
-use Rattle.motor.specs.declared.Moved.TheVariants.{Goes, Stops}
 use Rattle.motor.specs.Inputs.{level_there}
-use Rattle.motor.specs.Motion.{is_free, is_endless, reported, relative, absolute, if_known, served}
+use Rattle.motor.specs.Motion.{is_free, is_endless, reported, relative, absolute, if_known, served, Moved}
 use Rattle.turns.specs.declared.Core.{Core}
 use Rattle.turns.specs.declared.Stepped.{Stepped}
 use Rattle.turns.specs.Turns.{with_flow, with_motor, with_endless, started, ended, astray, moved, speed_after, acted, flowed, skipped, jumped, skip_taken, command_taken, read_taken, step_of, turn_core}
@@ -87,7 +88,7 @@ way {c} {n} s =
     let r = in-range n s.in-range in
     record { runs = s.runs; up = w.0; left = w.1; endless = w.2; least = r.0; most = r.1; few = s.few }
 
-is_line : (zeros n : ℕ) → length (speed_body zeros n) ≤ most_bytes → body_of (speed_body zeros n) ≡ Body.Line
+is_line : (zeros n : ℕ) → length (speed_body zeros n) ≤ most_bytes → body_of (speed_body zeros n) ≡ Ok Body.Line
 unfolding body_of one_of same
 is_line zeros n short = rw (le-ltb most_bytes (length (speed_body zeros n)) short)
 
@@ -98,7 +99,7 @@ module _ {c : Core} {zeros n : ℕ} (w : OnTheWay c zeros n) where
   long : length b ≡ zeros + length (decimal n) + 2
   long = omega (arith, length-append (spelling zeros n) (82 ∷ []), length-append (replicate zeros 48) (decimal n), length-replicate {A = ℕ} zeros 48)
 
-  line : body_of b ≡ Body.Line
+  line : body_of b ≡ Ok Body.Line
   line = is_line zeros n (omega (arith, long, w.few))
 
   operand : operand_at b 1 ≡ Number n (1 + (zeros + length (decimal n)))
@@ -118,7 +119,7 @@ module _ {c : Core} {zeros n : ℕ} (w : OnTheWay c zeros n) where
 
   taken : (line_fault b).code ≡ 0
   unfolding line_fault
-  taken = subst (λ (k : Body). (body_fault k b).code ≡ 0) (sym line) (speed-code b exact ∙ rw (limited, ranged n w.least w.most))
+  taken = subst (λ (k : Result Body Fault). (body_fault k b).code ≡ 0) (sym line) (speed-code b exact ∙ rw (limited, ranged n w.least w.most))
 
   pub line-obeyed : body_obeyed b c ≡ silent (with_endless n c)
   unfolding body_obeyed
@@ -160,20 +161,20 @@ module _ (u : Drive) (bytes image buffer : List ℕ) (never : (n : ℕ) → SetB
 
 moved-endless : (r : Moved) (c : Core) → (moved r c).endless ≡ c.endless
 unfolding ended
-moved-endless (Goes m) c = refl
-moved-endless (Stops k) c = refl
+moved-endless (Ok m) c = refl
+moved-endless (Err k) c = refl
 
 -- `P n` or `D n` that sets nothing: n is not 0, or the run stops
-after-stays : (n : ℕ) (r : Moved) (c : Core) → (n ≡ 0 → (m : Motor) → r ≡ Goes m → ⊥) → speed_after n r c ≡ c.endless
-after-stays n (Goes m) c h = cases (λ (k : ℕ). k ≡ c.endless) (eqb n 0) (λ q. absurd (h (eqb-true n 0 q) m refl)) (λ q. refl)
-after-stays n (Stops k) c h = refl
+after-stays : (n : ℕ) (r : Moved) (c : Core) → (n ≡ 0 → (m : Motor) → r ≡ Ok m → ⊥) → speed_after n r c ≡ c.endless
+after-stays n (Ok m) c h = cases (λ (k : ℕ). k ≡ c.endless) (eqb n 0) (λ q. absurd (h (eqb-true n 0 q) m refl)) (λ q. refl)
+after-stays n (Err k) c h = refl
 
-known-goes : (m a : Motor) (r : Moved) → if_known m r ≡ Goes a → m.known ≡ true
+known-goes : (m a : Motor) (r : Moved) → if_known m r ≡ Ok a → m.known ≡ true
 known-goes m a r = go m.known refl
   where
-    go : (k : Bool) → m.known ≡ k → cond m.known r (Stops 7) ≡ Goes a → m.known ≡ true
+    go : (k : Bool) → m.known ≡ k → cond m.known r (Err Stop.PositionUnknown) ≡ Ok a → m.known ≡ true
     go true q e = q
-    go false q e = let z : Stops 7 ≡ Goes a = rw q at e in let y : ◌≡◌ {A = ℕ} 0 1 = cc in absurd (omega arith)
+    go false q e = let z : Err Stop.PositionUnknown ≡ Ok a = rw q at e in let y : ◌≡◌ {A = ℕ} 0 1 = cc in absurd (omega arith)
 
 module _ (u : Drive) (sample ms steps : ℕ) (image : List ℕ) (m : Made u sample steps image)
     (never : (n : ℕ) → SetBy u (turn sample ms steps image) n → ⊥) where
@@ -207,9 +208,10 @@ module _ (u : Drive) (sample ms steps : ℕ) (image : List ℕ) (m : Made u samp
   act_stays (Delay n) next run e = refl
   act_stays (WaitInput n) next run e = refl
 
-  flow-stays : (f : Flowed) → Stays (flowed f then)
+  flow-stays : (f : Option Flow) → Stays (flowed f then)
   unfolding astray ended
-  flow-stays f = cases Stays f.astray (λ q. refl) (λ q. refl)
+  flow-stays (Some f) = refl
+  flow-stays None = refl
 
   skip-stays : (digits next : ℕ) → Stays (skip_taken digits t next then)
   unfolding skip_taken astray ended

@@ -1,4 +1,5 @@
 -- Each turn by itself: the command that stands at the place, or the wait, computes to a few fields of its definition. Assumes nothing.
+use Rattle.std.specs.Prelude.{Ok, Err, Option, Some, None}
 use Prim.Native.Nat.{ℕ, zero, suc, ◌^◌, ◌+◌, ◌-◌, ◌/◌, ◌%◌, ◌≤◌, ◌<◌, min}
 use mathlib.Core.Path.{◌≡◌, refl, sym, ap, subst, ◌∙◌}
 use mathlib.Core.List.{List, [], ◌∷◌}
@@ -19,15 +20,12 @@ use Rattle.commands.proofs.TableLaws.{exponent_complete}
 use Rattle.image.proofs.HeldLaws.{no_text, text-fits}
 use Rattle.image.specs.Image.{slot_good, slot_text}
 use Rattle.flow.specs.declared.Flow.{Flow}
-use Rattle.flow.specs.declared.Flowed.{Flowed}
 use Rattle.flow.specs.Flow.{begun, gone, loop_begun, loop_ended}
 use Rattle.motor.specs.declared.Wait.{Wait}
 use Rattle.motor.specs.declared.Motor.{Motor}
 use Rattle.motor.specs.declared.Last.{Last}
-use Rattle.motor.specs.declared.Moved.{Moved}
-use Rattle.motor.specs.declared.Moved.TheVariants.{Goes, Stops}
 use Rattle.motor.specs.Inputs.{high, level_there, falls, cut, clear}
-use Rattle.motor.specs.Motion.{fresh_motor, last, waiting, placed_at, action_of, room, reported, finite, homed, moved_on, relative, absolute, delayed, held, delay_on, endless_on, away_on, toward_on, is_free, stopped, served}
+use Rattle.motor.specs.Motion.{fresh_motor, last, waiting, placed_at, action_of, room, reported, finite, homed, moved_on, relative, absolute, delayed, held, delay_on, endless_on, away_on, toward_on, is_free, stopped, served, Moved}
 use Rattle.turns.specs.declared.Core.{Core}
 use Rattle.turns.specs.declared.setting.Settings.{Settings}
 use Rattle.turns.specs.declared.Stepped.{Stepped}
@@ -38,7 +36,8 @@ use Rattle.turns.specs.Turns.{fresh_core, started, with_flow, with_motor, with_s
 use Rattle.turns.specs.Ends.{Reads}
 use Rattle.turns.proofs.MoveLaws.{clash}
 use Rattle.turns.proofs.TurnLaws.{at_wait, turn_last}
-use Rattle.drive.specs.declared.StartAnswer.{StartAnswer}
+use Rattle.drive.specs.StartAnswer
+use Rattle.drive.specs.StartAnswer.{StartAnswer}
 use Rattle.drive.specs.Unit.{Drive, drive}
 use Rattle.drive.specs.Calls.{begun_with, begun_on, fresh_unit, start_of, most_sample, Turning, turn_taken, turn_of}
 use Rattle.drive.proofs.StartLaws.{started-unit}
@@ -174,8 +173,8 @@ SameStep c s = ((text image : List ℕ) → text_after s.enter text image ≡ te
 
 moved_same : (m : Moved) (c : Core) → SameStep c (stays (moved m c))
 unfolding ended
-moved_same (Goes m) c = ((λ t i. refl), refl, refl, refl)
-moved_same (Stops k) c = ((λ t i. refl), refl, refl, refl)
+moved_same (Ok m) c = ((λ t i. refl), refl, refl, refl)
+moved_same (Err k) c = ((λ t i. refl), refl, refl, refl)
 
 turn-same : (u : Drive) (sample ms steps : ℕ) (image : List ℕ) → SameStep u.core (step_of sample ms steps (text_of u) image u.core)
     → SameRun u (after (turn sample ms steps image) u)
@@ -380,9 +379,10 @@ module _ (u : Drive) (sample ms steps : ℕ) (image : List ℕ) (run : u.core.ru
   unfolding ended stopped reported
   off_kept k f e = rw e (refl, refl, refl, refl, refl, refl)
 
-  flow_kept : (f : Flowed) → u.core.motor.wait ≡ Wait.Nothing → Kept (flowed f (with_motor now u.core))
+  flow_kept : (f : Option Flow) → u.core.motor.wait ≡ Wait.Nothing → Kept (flowed f (with_motor now u.core))
   unfolding astray
-  flow_kept f e = cases Kept f.astray (λ q. off_kept u.core.code u.core.flow e) (λ q. on_kept f.flow e)
+  flow_kept (Some f) e = on_kept f e
+  flow_kept None e = off_kept u.core.code u.core.flow e
 
   skip_kept : (digits next : ℕ) → u.core.motor.wait ≡ Wait.Nothing → Kept (skip_taken digits (text_of u) next (with_motor now u.core))
   unfolding skip_taken astray
@@ -453,7 +453,7 @@ module _ (u : Drive) (sample ms steps : ℕ) (image : List ℕ) (run : u.core.ru
       turn_made u sample ms steps image m
       ∙ ap (λ (s : Stepped). (turn_taken (settled s) image u).unit) (at_wait sample ms steps (text_of u) image u.core run w e f)
 
-  goes_to : (w x : Wait) (p : ℕ) (k : Bool) (a : Motor) → u.core.motor.wait ≡ w → is_free w ≡ false → served_by w ≡ Goes a
+  goes_to : (w x : Wait) (p : ℕ) (k : Bool) (a : Motor) → u.core.motor.wait ≡ w → is_free w ≡ false → served_by w ≡ Ok a
       → a.wait ≡ x → a.position ≡ p → a.known ≡ k → a.sample ≡ sample → Leads t x p k
   goes_to w x p k a e f g q y z s =
       subst (λ (v : Drive). Plainly u v sample x p k) (sym (at_turn w e f ∙ ap waited g)) (record {
@@ -565,7 +565,7 @@ module _ (u : Drive) (sample ms steps : ℕ) (image : List ℕ) (run : u.core.ru
       cases (λ (r : Moved). Finds (waited r)) (cut u.core.settings.flag sample) (λ q z y. found)
       (λ q. cases (λ (r : Moved). Finds (waited r)) (leb left steps) (λ l z. absurd (false≢true z)) (λ l z y. absurd (false≢true (sym y))))
     where
-      found : Plainly u (waited (Goes (placed_at 0 now))) sample Wait.Nothing 0 true
+      found : Plainly u (waited (Ok (placed_at 0 now))) sample Wait.Nothing 0 true
       found = record {
         goes = record { runs = run; text_same = refl; loaded-same = refl; code_same = refl; waits = refl; position = refl; known = refl; keeps-sample = refl };
         settings-same = refl;

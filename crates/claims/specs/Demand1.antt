@@ -1,7 +1,7 @@
 -- Demand 1: "Every call answers on every input and every lent length. Bad input gets the code or refusal that document 01 names, at the place in
 -- the order that it names, and that refusal changes nothing .. beyond what 01 says." A field for each row of 01's table of outcomes.
 -- Assumes nothing.
-use Rattle.std.specs.Prelude.{ℕ, ◌≤◌, ◌<◌, ◌≡◌, List, [], ◌∷◌, ◌++◌, Bool, true, false, not, cond, length, drop, eqb}
+use Rattle.std.specs.Prelude.{ℕ, ◌≤◌, ◌<◌, ◌≡◌, List, [], ◌∷◌, ◌++◌, true, false, not, cond, length, drop, eqb, Option, Some, Result}
 use Prim.Native.String.{String}
 use Rattle.digits.specs.Decimal.{decimal}
 use Rattle.commands.specs.declared.Fault.{Fault}
@@ -13,7 +13,8 @@ use Rattle.frames.specs.declared.Frame.{Frame}
 use Rattle.frames.specs.declared.Framing.{Framing}
 use Rattle.answers.specs.Packet.{status_of}
 use Rattle.ramp.specs.declared.Figures.{Figures}
-use Rattle.ramp.specs.Ramp.{figures_of, verdict_name}
+use Rattle.ramp.specs.declared.Refused.{Refused}
+use Rattle.ramp.specs.Ramp.{figures_of, told_of, verdict_name}
 use Rattle.ramp.specs.Claims.{AllZero}
 use Rattle.host.specs.Claims.{HostClaims}
 use Rattle.turns.specs.declared.Core.{Core}
@@ -21,7 +22,8 @@ use Rattle.turns.specs.Turns.{direction_name}
 use Rattle.obeying.specs.Obeying as obeying
 use Rattle.obeying.specs.Obeying.{body_obeyed}
 use Rattle.drive.specs.Unit.{Drive, drive}
-use Rattle.drive.specs.declared.FeedAnswer.{FeedAnswer}
+use Rattle.drive.specs.FeedAnswer
+use Rattle.drive.specs.FeedAnswer.{FeedAnswer}
 use Rattle.drive.specs.Names.{start_name, feed_name, turn_name}
 use Rattle.drive.specs.Calls.{Starting, start_of, received_by, body_by, packet_as, Feeding, feed_of, Turning, turn_of}
 use Rattle.claims.specs.Order.{fault_in_order, code_in_order}
@@ -131,16 +133,17 @@ pub record TurnRow (u : Drive) (sample ms steps : ℕ) (image : List ℕ) : Type
   pub taken : length image ≡ 4160 → sample ≤ 15 → steps ≤ u.core.motor.last.number → turn_name (turn_of u sample ms steps image).answer ≡ "taken"
 
 -- "named refusal, all figures 0"
-pub record RampRefused (name : String) (f : Figures) : Type 0 where
-  pub named : verdict_name f.verdict ≡ name
-  pub zeros : AllZero f
+pub record RampRefused (name : String) (r : Result Figures Refused) : Type 0 where
+  pub named : verdict_name r ≡ name
+  pub zeros : AllZero (told_of r)
 
--- "ramp: V, then L, then N outside the ranges of this paper"; "endless, where N is not looked at"
-pub record RampRow (v l : ℕ) (endless : Bool) (n : ℕ) : Type 0 where
-  pub v_outside : (From 1 16777216 v → ⊥) → RampRefused "V outside its range" (figures_of v l endless n)
-  pub l_outside : From 1 16777216 v → (From 1 65000 l → ⊥) → RampRefused "L outside its range" (figures_of v l endless n)
-  pub n_outside : From 1 16777216 v → From 1 65000 l → endless ≡ false → (From 1 2147483647 n → ⊥) → RampRefused "N outside its range" (figures_of v l endless n)
-  pub taken : From 1 16777216 v → From 1 65000 l → (endless ≡ false → From 1 2147483647 n) → verdict_name (figures_of v l endless n).verdict ≡ "taken"
+-- "ramp: V, then L, then N outside the ranges of this paper"; "endless, where N is not looked at": None
+pub record RampRow (v l : ℕ) (steps : Option ℕ) : Type 0 where
+  pub v_outside : (From 1 16777216 v → ⊥) → RampRefused "V outside its range" (figures_of v l steps)
+  pub l_outside : From 1 16777216 v → (From 1 65000 l → ⊥) → RampRefused "L outside its range" (figures_of v l steps)
+  pub n_outside : (n : ℕ) → From 1 16777216 v → From 1 65000 l → steps ≡ Some n → (From 1 2147483647 n → ⊥)
+      → RampRefused "N outside its range" (figures_of v l steps)
+  pub taken : From 1 16777216 v → From 1 65000 l → ((n : ℕ) → steps ≡ Some n → From 1 2147483647 n) → verdict_name (figures_of v l steps) ≡ "taken"
 
 pub record Demand1 : Type 0 where
   pub start : (number : ℕ) (image body text : List ℕ) → StartRow number image body text
@@ -150,7 +153,7 @@ pub record Demand1 : Type 0 where
   -- "host: list that the line check refuses .., then buffer too short | that code, or named refusal; buffer unchanged"
   pub line : HostClaims
   pub packet : PacketRow
-  pub ramp : (v l : ℕ) (endless : Bool) (n : ℕ) → RampRow v l endless n
+  pub ramp : (v l : ℕ) (steps : Option ℕ) → RampRow v l steps
   pub check_image : (image : List ℕ) → ImageRow image
   pub store : (image : List ℕ) (k : ℕ) (text : List ℕ) → StoreRow image k text
   -- 02, E14: "Refusals: by name, .."

@@ -1,7 +1,7 @@
 -- Demand 2: "Which lines are taken, what each does, every answer byte and every ramp figure are those of the manuals as 01 condenses them. A line
 -- written from a list of commands reads back as that list. Cutting the serial stream differently .. changes nothing. A whole frame for another
 -- unit, put in between two frames, changes none of this unit's answers." Assumes nothing.
-use Rattle.std.specs.Prelude.{ℕ, ◌<◌, ◌≡◌, List, Bool, true, false, not, cond, take}
+use Rattle.std.specs.Prelude.{ℕ, ◌<◌, ◌≡◌, List, Bool, true, false, not, cond, take, Ok}
 use Rattle.parts.specs.Parts.{part}
 use Rattle.digits.specs.ReadBack.{DigitClaims}
 use Rattle.commands.specs.Claims.{CommandClaims}
@@ -9,7 +9,6 @@ use Rattle.lines.specs.declared.Body.{Body}
 use Rattle.lines.specs.declared.Taken.{Taken}
 use Rattle.lines.specs.Bodies.{body_of, line_of}
 use Rattle.lines.specs.Claims.{LineClaims}
-use Rattle.image.specs.declared.Checked.{Checked}
 use Rattle.image.specs.Image.{right_length, slots, slot_text}
 use Rattle.image.specs.Calls.{checked_of}
 use Rattle.image.specs.Claims.{SlotKept, ImageClaims}
@@ -53,12 +52,12 @@ pub record Stores (b : List ℕ) (slot at n : ℕ) (c : Core) (text image : List
   pub stored : right_length image ≡ true → slot_text (image_written (body_obeyed b c).write b image) slot ≡ part b at n
   -- "`s` rewrites one entry and one body" of the image lent with the frame
   pub elsewhere : (j : ℕ) → j < slots → (j ≡ slot → ⊥) → SlotKept j image (image_written (body_obeyed b c).write b image)
-  pub stays-good : checked_of image ≡ Checked.Good → checked_of (image_written (body_obeyed b c).write b image) ≡ Checked.Good
+  pub stays-good : checked_of image ≡ Ok tt → checked_of (image_written (body_obeyed b c).write b image) ≡ Ok tt
 
 pub record LineDoes (b : List ℕ) (c : Core) (text image : List ℕ) : Type 0 where
-  pub loads : (n : ℕ) (run : Bool) → body_of b ≡ Body.Line → c.running ≡ false → line_of b ≡ Taken.Line n run
+  pub loads : (n : ℕ) (run : Bool) → body_of b ≡ Ok Body.Line → c.running ≡ false → line_of b ≡ Ok (Taken.Line n run)
       → Loads b n run c text image (body_obeyed b c)
-  pub stores : (slot at n : ℕ) → body_of b ≡ Body.Line → c.running ≡ false → line_of b ≡ Taken.Store slot at n
+  pub stores : (slot at n : ℕ) → body_of b ≡ Ok Body.Line → c.running ≡ false → line_of b ≡ Ok (Taken.Store slot at n)
       → Stores b slot at n c text image
 
 pub record Demand2 : Type 0 where

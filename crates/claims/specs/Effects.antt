@@ -5,7 +5,8 @@ use Rattle.image.specs.Image.{slot_good, slot_text}
 use Rattle.motor.specs.declared.Wait.{Wait}
 use Rattle.turns.specs.declared.Core.{Core}
 use Rattle.drive.specs.Unit.{Drive}
-use Rattle.drive.specs.declared.StartAnswer.{StartAnswer}
+use Rattle.drive.specs.StartAnswer
+use Rattle.drive.specs.StartAnswer.{StartAnswer}
 use Rattle.drive.specs.Calls.{start_of, turn_of}
 use Rattle.runs.specs.Reach.{feed, turn, after}
 use Rattle.runs.specs.Causes.{Made}

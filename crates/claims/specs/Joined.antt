@@ -1,6 +1,6 @@
 -- From bytes to answer: what holds of every reached unit before a call, and a frame of either framing typed to it. 01, "Frames" and "What
 -- comes back"; 02, E1. Assumes nothing.
-use Rattle.std.specs.Prelude.{ℕ, ◌≤◌, ◌≡◌, List, [], true, false, not, cond, length}
+use Rattle.std.specs.Prelude.{ℕ, ◌≤◌, ◌≡◌, List, [], true, false, not, cond, length, Some}
 use Rattle.commands.specs.Table.{one_of}
 use Rattle.parts.specs.Parts.{most_bytes}
 use Rattle.parts.specs.Letters.{cr, etx}
@@ -12,7 +12,6 @@ use Rattle.frames.specs.Claims.{Sound, free, frame_of, oem_of, sum_of}
 use Rattle.answers.specs.Packet.{packet_bytes, status_of}
 use Rattle.obeying.specs.Obeying.{body_obeyed}
 use Rattle.drive.specs.Unit.{Drive}
-use Rattle.drive.specs.declared.Last.{Last}
 use Rattle.drive.specs.Repeats.{sequence_number, is_repeat, is_query}
 use Rattle.drive.specs.Calls.{received_by, packet_as, Feeding, feed_of}
 use Rattle.stream.specs.Fits.{Fits}
@@ -61,4 +60,4 @@ pub record Joined (u : Drive) : Type 0 where
   -- "the number of the last OEM frame for this unit or its groups not refused": one that the order of checks takes sets it; a refused one
   -- leaves it (`FeedRow`), as do plain and skipped frames
   pub sets-number : (bytes image buffer : List ℕ) (q : ℕ) → Heeded image buffer → ours (received_by u bytes).frame ≡ true
-      → (received_by u bytes).framing ≡ Framing.Oem q → frame_code u bytes ≡ 0 → (feed_of u bytes image buffer).unit.last ≡ Last.Number (sequence_number q)
+      → (received_by u bytes).framing ≡ Framing.Oem q → frame_code u bytes ≡ 0 → (feed_of u bytes image buffer).unit.last ≡ Some (sequence_number q)

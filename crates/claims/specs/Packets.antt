@@ -1,10 +1,10 @@
 -- What the host reads, in the bytes of 01, "What comes back", and of 02, E1.
 -- Assumes nothing.
-use Rattle.std.specs.Prelude.{ℕ, ◌+◌, ◌≤◌, ◌<◌, ◌≡◌, List, [], ◌∷◌, ◌++◌, Bool, cond, length, get_or}
+use Rattle.std.specs.Prelude.{ℕ, ◌+◌, ◌≤◌, ◌<◌, ◌≡◌, List, [], ◌∷◌, ◌++◌, Bool, cond, length, get_or, Option, None, IsSomeAnd}
 use Rattle.checksum.specs.Checksum.{checksum_of}
 use Rattle.answers.specs.declared.Packet.{Packet}
 use Rattle.answers.specs.Names.{found_name}
-use Rattle.answers.specs.Reading.{packet_refused, read_of}
+use Rattle.answers.specs.Reading.{read_of}
 use Rattle.answers.specs.Oem.{read_oem_of}
 use Rattle.answers.specs.AnswerClaims.{carried}
 
@@ -34,16 +34,16 @@ pub data One (make : ℕ → List ℕ → List ℕ) : List ℕ → Type 0 where
 
 -- what is told of it
 pub record PacketTold (s : List ℕ) (idle : Bool) (code : ℕ) (d : List ℕ) (p : Packet) : Type 0 where
-  pub named : found_name p.found ≡ "exactly one packet"
   pub as_idle : p.idle ≡ idle
   pub as_code : p.code ≡ code
   pub as_data : carried p s ≡ d
 
 -- "host: slice not exactly one packet (..) | named refusal"; of a slice of bytes
-pub record ReadsPackets (make : ℕ → List ℕ → List ℕ) (read : List ℕ → Packet) : Type 0 where
+pub record ReadsPackets (make : ℕ → List ℕ → List ℕ) (read : List ℕ → Option Packet) : Type 0 where
+  pub named : (idle : Bool) (code : ℕ) (d : List ℕ) → code < 16 → Data d → found_name (read (make (status_byte idle code) d)) ≡ "exactly one packet"
   pub tells : (idle : Bool) (code : ℕ) (d : List ℕ) → code < 16 → Data d
-      → PacketTold (make (status_byte idle code) d) idle code d (read (make (status_byte idle code) d))
-  pub refuses : (s : List ℕ) → get_or s 2 0 < 256 → (One make s → ⊥) → (found_name (read s).found ≡ "not exactly one packet") × (read s ≡ packet_refused)
+      → IsSomeAnd (read (make (status_byte idle code) d)) (λ p. PacketTold (make (status_byte idle code) d) idle code d p)
+  pub refuses : (s : List ℕ) → get_or s 2 0 < 256 → (One make s → ⊥) → (found_name (read s) ≡ "not exactly one packet") × (read s ≡ None)
 
 -- in both framings
 pub record PacketRow : Type 0 where

@@ -1,14 +1,12 @@
 -- For the code: a letter's row with the number still to come, and what its operand gives.
 -- Assumes nothing.
-use Rattle.std.specs.Prelude.{ℕ, ◌≡◌}
+use Rattle.std.specs.Prelude.{ℕ, ◌≡◌, Result, Ok, Err}
 use Rattle.commands.specs.declared.Command.{Command}
 use Rattle.commands.specs.declared.Command.TheVariants.{LoopBegin, LoopEnd, Skip, Jump, Plain}
 use Rattle.commands.specs.declared.Act.{Act}
 use Rattle.commands.specs.declared.Act.TheVariants.{MoveTo, MoveUp, MoveDown, SetPosition, Home, Set, Delay, WaitInput}
 use Rattle.commands.specs.declared.Asks.{Asks}
 use Rattle.commands.specs.declared.Lettered.{Lettered}
-use Rattle.commands.specs.declared.Fitted.{Fitted}
-use Rattle.commands.specs.declared.Fitted.TheVariants.{Fits, Fails}
 use Rattle.commands.specs.declared.Read.{Read}
 use Rattle.commands.specs.declared.Read.TheVariants.{At, Bad}
 use Rattle.commands.specs.Table.{asks_of, command_of}
@@ -41,6 +39,6 @@ pub record RowIs (l : ℕ) (r : Lettered) : Type 0 where
   pub commands : (n : ℕ) → numbered_as n r.command ≡ command_of l n
 
 -- the letter's command with that number, or the fault at the letter's place
-abbrev pub fitted_read : ℕ → ℕ → Fitted → Read
-fitted_read l p (Fits n next) = At (command_of l n) next
-fitted_read l p (Fails code) = Bad code p
+abbrev pub fitted_read : ℕ → ℕ → Result (ℕ × ℕ) ℕ → Read
+fitted_read l p (Ok (n, next)) = At (command_of l n) next
+fitted_read l p (Err code) = Bad code p

@@ -3,45 +3,47 @@ ghost use Rattle.std.specs.Prelude.{◌≡◌, ℕ};
 ghost use Rattle.commands.specs.Reading.{required, or_else, not_before, letter_at};
 ghost use Rattle.commands.specs.Fitting.{fitted_read, act_numbered, numbered_as};
 
-use crate::{Act, Asks, Command, Fitted, Range, table};
+use crate::{Act, Asks, Command, MALFORMED, OUT_OF_RANGE, Range, table};
 use digits::Operand;
 
-// The number of a letter that asks so, with its operand from a place of s, of so many digits at most.
-pub(crate) fn fit_at(asks: Asks, s: &[u8], at: usize, most: usize) -> Fitted
+// The number of a letter that asks so, with its operand from a place of s, of so many digits at most, and the place past it; or the
+// code of a fault. So the command is made in one place.
+#[tactic(auto, using(crate::proofs::ReadingLaws::begins_at))]
+pub(crate) fn fit_at(asks: Asks, s: &[u8], at: usize, most: usize) -> Result<(u32, usize), u8>
     ensures { (l : ℕ) → fitted_read l at result ≡ letter_at most asks l s.now at }
 {
     match asks {
-        Asks::Unknown => Fitted::Fails(2),
-        Asks::Nothing => Fitted::Fits(0, at),
+        Asks::Unknown => Err(MALFORMED),
+        Asks::Nothing => Ok((0, at)),
         Asks::Required(range) => fit_required(range, digits::read_up_to(s, at, most), at),
         Asks::OrElse(range, m) => fit_or(range, m, digits::read_up_to(s, at, most), at),
     }
 }
 
 // The number of an operand that must stand at `at`.
-fn fit_required(range: Range, operand: Operand, at: usize) -> Fitted
+fn fit_required(range: Range, operand: Operand, at: usize) -> Result<(u32, usize), u8>
     requires { not_before at operand }
     ensures { (l : ℕ) → fitted_read l at result ≡ required l range operand at }
 {
     let Operand::Number(n, next) = operand else {
-        return Fitted::Fails(3);
+        return Err(OUT_OF_RANGE);
     };
     if table::is_within(range, n, next - at) {
-        Fitted::Fits(n, next)
+        Ok((n, next))
     } else {
-        Fitted::Fails(3)
+        Err(OUT_OF_RANGE)
     }
 }
 
 // The same, where no operand means the number m.
-fn fit_or(range: Range, m: u32, operand: Operand, at: usize) -> Fitted
+fn fit_or(range: Range, m: u32, operand: Operand, at: usize) -> Result<(u32, usize), u8>
     requires { not_before at operand }
     ensures { (l : ℕ) → fitted_read l at result ≡ or_else l range m operand at }
 {
-    let Operand::Missing = operand else {
-        return fit_required(range, operand, at);
-    };
-    Fitted::Fits(m, at)
+    match operand {
+        Operand::Missing => Ok((m, at)),
+        _ => fit_required(range, operand, at),
+    }
 }
 
 // A command of a row with its number.

@@ -12,7 +12,11 @@ ghost use Rattle.commands.specs.Reading.{read_by, read_at};
 ghost use Rattle.commands.specs.Writing.{spelled};
 ghost use Rattle.commands.specs.Claims.{CommandClaims};
 
-use digits::Written;
+// The code of a letter that is unknown or misplaced.
+pub const MALFORMED: u8 = 2;
+
+// The code of an operand that is missing or out of range.
+pub const OUT_OF_RANGE: u8 = 3;
 
 // A command with its operand as typed.
 #[derive(Clone, Copy)]
@@ -38,7 +42,7 @@ pub enum Act {
 }
 
 // What a command sets: a variant each, its letter and range in `table.rt`.
-#[derive(Clone, Copy)]
+#[derive(Clone, Copy, PartialEq, Eq)]
 pub enum Setting {
     TopSpeed,
     Acceleration,
@@ -52,8 +56,9 @@ pub enum Setting {
     Baud,
 }
 
-// Why a line is refused, 2 or 3, and where: counting bytes from 1, 0 for no place.
-#[derive(Clone, Copy)]
+// Why a line is refused, 2 or 3, and where: counting bytes from 1, 0 for no place. Numbers, since they are 01's, which answers carry:
+// `line_code_lem` and the K table speak of them.
+#[derive(Clone, Copy, PartialEq, Eq)]
 pub struct Fault {
     pub code: u8,
     pub place: usize,
@@ -66,13 +71,6 @@ pub enum Read {
     // The code of a fault and its place, apart: a fault would share a word with a command, and be copied by bytes.
     Bad(u8, usize),
     End,
-}
-
-// The command of a letter, where it has one.
-#[derive(Clone, Copy)]
-pub enum Named {
-    Is(Command),
-    NoCommand,
 }
 
 // Which numbers an operand may be.
@@ -107,13 +105,6 @@ struct Lettered {
     command: Command,
 }
 
-// The exponent of a power of two from 1 to 256.
-#[derive(Clone, Copy)]
-pub enum Exponent {
-    Power(u32),
-    NoPower,
-}
-
 // How a command is written: its letter, and its operand.
 #[derive(Clone, Copy)]
 pub enum Spelling {
@@ -121,15 +112,6 @@ pub enum Spelling {
     WithNumber(u8, u32),
     // At least two digits.
     WithTwoDigits(u8, u32),
-}
-
-// What a letter's operand gives, so that the command is made in one place.
-#[derive(Clone, Copy)]
-enum Fitted {
-    // The number, and the place past it.
-    Fits(u32, usize),
-    // The code of a fault.
-    Fails(u8),
 }
 
 // What stands at a place of s.
@@ -143,37 +125,32 @@ pub fn read_command(s: &[u8], at: usize) -> Read
 pub fn read_by(s: &[u8], at: usize, most: usize) -> Read
     ensures { result ≡ read_by most s.now at }
 {
+    // By an index: an Option of a reference lies otherwise on a chip, where `chip/pointer-places` refuses it.
     if s.len() <= at {
         return Read::End;
     }
-    let letter = s[at];
-    let row = table::row_of(letter);
-    let asks = row.asks;
-    let command = row.command;
-    let fitted = fitting::fit_at(asks, s, at + 1, most);
-    match fitted {
-        Fitted::Fits(n, next) => Read::At(fitting::numbered(command, n), next),
-        Fitted::Fails(code) => Read::Bad(code, at + 1),
+    let Lettered { asks, command } = table::row_of(s[at]);
+    match fitting::fit_at(asks, s, at + 1, most) {
+        Ok((n, next)) => Read::At(fitting::numbered(command, n), next),
+        Err(code) => Read::Bad(code, at + 1),
     }
 }
 
-// The command of a letter with any number, in its range or not.
-pub fn command_of(letter: u8, n: u32) -> Named
+// The command of a letter with any number, in its range or not; None where the letter has none.
+#[tactic(auto, unfolding(crate::specs::Table::named_of))]
+pub fn command_of(letter: u8, n: u32) -> Option<Command>
     ensures { result ≡ named_of letter n }
 {
-    let row = table::row_of(letter);
-    let asks = row.asks;
-    let command = row.command;
+    let Lettered { asks, command } = table::row_of(letter);
     match asks {
-        Asks::Unknown => Named::NoCommand,
-        Asks::Nothing => Named::Is(fitting::numbered(command, n)),
-        Asks::Required(_) => Named::Is(fitting::numbered(command, n)),
-        Asks::OrElse(_, _) => Named::Is(fitting::numbered(command, n)),
+        Asks::Unknown => None,
+        _ => Some(fitting::numbered(command, n)),
     }
 }
 
-// Writes a command as the host does, from a place of the buffer.
-pub fn write_command(buffer: &mut [u8], at: usize, c: Command) -> Written
+// Writes a command as the host does, from a place of the buffer; the place past it, or None where there is no room.
+#[tactic(auto, unfolding(crate::specs::Writing::spelled))]
+pub fn write_command(buffer: &mut [u8], at: usize, c: Command) -> Option<usize>
     ensures { WrittenIs buffer.old at (spelled c) result buffer.new }
 {
     match writing::command_spelling(c) {
@@ -183,17 +160,14 @@ pub fn write_command(buffer: &mut [u8], at: usize, c: Command) -> Written
     }
 }
 
-// The exponent of a number with exactly one bit set, at most 256.
-pub fn exponent_of(n: u32) -> Exponent
+// The exponent of a number with exactly one bit set, at most 256; None of another.
+pub fn exponent_of(n: u32) -> Option<u32>
     ensures { result ≡ exponent_of n }
 {
-    if 256 < n {
-        return Exponent::NoPower;
-    }
-    if u32::count_ones(n) == 1 {
-        Exponent::Power(u32::trailing_zeros(n))
+    if n <= 256 && n.count_ones() == 1 {
+        Some(n.trailing_zeros())
     } else {
-        Exponent::NoPower
+        None
     }
 }
 

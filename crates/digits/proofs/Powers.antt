@@ -106,33 +106,25 @@ making n digits left h e f = record {
 }
 
 -- the power of the next digit: what is left is below ten times it, and it is at most the highest
-pub next_power : (n : ℕ) (digits : List ℕ) (rest i left : ℕ) → Making n digits rest i left → 0 < left
-    → (rest < 10 ^ (left - 1) * 10) × (10 ^ (left - 1) ≤ 1000000000)
-next_power n digits rest i zero m h = absurd (omega arith)
-next_power n digits rest i (suc k) m h =
-    let down : suc k - 1 ≡ k = omega arith in
-    rw down (omega (arith, m.small, pow-suc 10 k), pow-le-pow_right {n = 10} (omega arith) {i = k} {j = 9} (omega (arith, m.place)))
+pub next_power : (n : ℕ) (digits : List ℕ) (rest i k : ℕ) → Making n digits rest i (suc k) → (rest < 10 ^ k * 10) × (10 ^ k ≤ 1000000000)
+next_power n digits rest i k m =
+    (omega (arith, m.small, pow-suc 10 k), pow-le-pow_right {n = 10} (omega arith) {i = k} {j = 9} (omega (arith, m.place)))
 
 -- one digit more is made
-pub made_more : (n : ℕ) (digits : List ℕ) (rest i left d r : ℕ) → Making n digits rest i left → 0 < left
-    → 10 ^ (left - 1) * d + r ≡ rest → r < 10 ^ (left - 1) → d < 10 → Making n (set digits i (48 + d)) r (i + 1) (left - 1)
-made_more n digits rest i zero d r m l e g h = absurd (omega arith)
-made_more n digits rest i (suc k) d r m l e g h =
-    let down : suc k - 1 ≡ k = omega arith in
-    let whole : 10 ^ k * d + r ≡ rest = rw down at e in
-    let below : r < 10 ^ k = rw down at g in
-    let first : in_places (suc k) rest ≡ (48 + d) ∷ in_places k r = rw (← whole) (high-first k d r h below) in
+pub made_more : (n : ℕ) (digits : List ℕ) (rest i k d r : ℕ) → Making n digits rest i (suc k) → 10 ^ k * d + r ≡ rest → r < 10 ^ k → d < 10
+    → Making n (set digits i (48 + d)) r (i + 1) k
+made_more n digits rest i k d r m whole below g =
+    let first : in_places (suc k) rest ≡ (48 + d) ∷ in_places k r = rw (← whole) (high-first k d r g below) in
     let stored : take (suc i) (set digits i (48 + d)) ≡ take i digits ++ ((48 + d) ∷ []) =
     take-suc-set digits i (48 + d) (omega (arith, m.place, m.long)) in
     let up : i + 1 ≡ suc i = omega arith in
-    rw (down, up) (record {
+    rw up (record {
       place = omega (arith, m.place);
       small = below;
       same = m.same ∙ rw (first, stored) (sym (append_snoc (take i digits) (48 + d) (in_places k r)));
       long = length-set digits i (48 + d) ∙ m.long;
     })
 
-pub made : (n : ℕ) (digits : List ℕ) (rest i left : ℕ) → Making n digits rest i left → left ≡ 0 → take i digits ≡ decimal n
+pub made : (n : ℕ) (digits : List ℕ) (rest i : ℕ) → Making n digits rest i 0 → take i digits ≡ decimal n
 unfolding in_places
-made n digits rest i zero m e = sym (m.same ∙ append-nil (take i digits))
-made n digits rest i (suc k) m e = absurd (omega arith)
+made n digits rest i m = sym (m.same ∙ append-nil (take i digits))

@@ -10,6 +10,7 @@ use lib.Dec.{leb}
 use lib.ListN.{length, get_or, drop, replicate, length-append, length-drop, length-replicate}
 use lib.Seq.{drop-drop}
 use borrow.Author.Tests.{lt-ltb, le-ltb, le-leb, lt-leb, leb-true}
+use Rattle.digits.specs.declared.Operand.{Operand}
 use Rattle.digits.specs.declared.Operand.TheVariants.{Missing, Number, Above}
 use Rattle.digits.specs.Operand.{is_digit, digit_run, value_after, widest, number_to, operand_of, operand_at, operand_up_to}
 use Rattle.digits.specs.Decimal.{digits_in, digits_of, ascii, decimal}
@@ -220,13 +221,19 @@ module _ (most : ℕ) (s : List ℕ) (at : ℕ) where
   unfolding operand_up_to operand_at
   limit_missing e = let run : digit_run (drop at s) ≡ [] = missing-run (digit_run (drop at s)) _ e in sym (rw (run, le-leb 0 most (omega arith)) (rw run at e))
 
-  pub limit_number : (n next : ℕ) → operand_at s at ≡ Number n next → cond (leb (next - at) most) (Number n next) (Above next) ≡ operand_up_to most s at
+  limit_number : (n next : ℕ) → operand_at s at ≡ Number n next → cond (leb (next - at) most) (Number n next) (Above next) ≡ operand_up_to most s at
   unfolding operand_up_to operand_at
   limit_number n next e =
       let k = number-run (digit_run (drop at s)) _ n next e in
       let past : next ≡ at + length (digit_run (drop at s)) = k.1 in
       let long : next - at ≡ length (digit_run (drop at s)) = omega arith in
       rw (long, e, past)
+
+  pub limit_few : (n next : ℕ) → operand_at s at ≡ Number n next → next - at ≤ most → Number n next ≡ operand_up_to most s at
+  limit_few n next e h = rw (le-leb (next - at) most h) at (limit_number n next e)
+
+  pub limit_many : (n next : ℕ) → operand_at s at ≡ Number n next → most < next - at → Above next ≡ operand_up_to most s at
+  limit_many n next e h = rw (lt-leb (next - at) most h) at (limit_number n next e)
 
   pub limit_above : (next : ℕ) → operand_at s at ≡ Above next → Above next ≡ operand_up_to most s at
   unfolding operand_up_to operand_at
@@ -238,6 +245,12 @@ module _ (most : ℕ) (s : List ℕ) (at : ℕ) where
       go : (b : Bool) → Above (at + length (digit_run (drop at s))) ≡ cond b (Above (at + length (digit_run (drop at s)))) (Above (at + length (digit_run (drop at s))))
       go true = refl
       go false = refl
+
+  -- what is no number is not limited
+  pub limit_other : (o : Operand) → operand_at s at ≡ o → ((n next : ℕ) → o ≡ Number n next → ⊥) → o ≡ operand_up_to most s at
+  limit_other Missing e not = limit_missing e
+  limit_other (Number n next) e not = absurd (not n next refl)
+  limit_other (Above next) e not = limit_above next e
 
   -- a number was read, and its digits are not too many
   pub up_to_number : (n next : ℕ) → operand_up_to most s at ≡ Number n next → (operand_at s at ≡ Number n next) × (length (digit_run (drop at s)) ≤ most)

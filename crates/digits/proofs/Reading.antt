@@ -7,18 +7,13 @@ use native.Mathlib.Omega.{arith}
 use native.Mathlib.Numerals.{add-one}
 use lib.ListN.{length, get_or, drop, length-drop, drop_of_length-le}
 use lib.Seq.{drop-cons}
-use lib.Dec.{ltb}
-use borrow.Author.Tests.{lt-ltb, le-ltb, le-leb, lt-leb}
+use borrow.Author.Tests.{le-leb, lt-leb}
 use Rattle.digits.specs.declared.Operand.TheVariants.{Missing, Number, Above}
 use Rattle.digits.specs.Operand.{is_digit, digit_run, value_after, widest, operand_of}
 
 -- ---- one digit
 
--- what `digit_at` answers of the place i of s
-abbrev pub DigitAt : List ℕ → ℕ → ℕ → Type 0
-DigitAt s i d = digit_run (drop i s) ≡ cond (ltb d 10) (d ∷ digit_run (drop (i + 1) s)) []
-
-pub digit_past : (s : List ℕ) (i : ℕ) → length s ≤ i → DigitAt s i 10
+pub digit_past : (s : List ℕ) (i : ℕ) → length s ≤ i → digit_run (drop i s) ≡ []
 unfolding digit_run
 digit_past s i h = rw (drop_of_length-le s h)
 
@@ -27,20 +22,11 @@ module _ (s : List ℕ) (i : ℕ) (l : i < length s) where
   unfolding digit_run
   digit_here = rw (add-one, drop-cons s i 0)
 
-  pub digit_below : get_or s i 0 < 48 → DigitAt s i 10
-  digit_below h = digit_here ∙ rw (lt-leb 48 (get_or s i 0) h)
+  pub digit_none : is_digit (get_or s i 0) ≡ false → digit_run (drop i s) ≡ []
+  digit_none h = digit_here ∙ rw h
 
-  pub digit_over : 48 ≤ get_or s i 0 → 57 < get_or s i 0 → DigitAt s i 10
-  digit_over g h = digit_here ∙ rw (le-leb 48 (get_or s i 0) g, lt-leb (get_or s i 0) 57 h)
-
-  pub digit_is : 48 ≤ get_or s i 0 → get_or s i 0 ≤ 57 → DigitAt s i (get_or s i 0 - 48)
-  digit_is g h = digit_here ∙ rw (le-leb 48 (get_or s i 0) g, le-leb (get_or s i 0) 57 h, lt-ltb (get_or s i 0 - 48) 10 (omega arith))
-
-pub run_step : (s : List ℕ) (i d : ℕ) → DigitAt s i d → d < 10 → digit_run (drop i s) ≡ d ∷ digit_run (drop (i + 1) s)
-run_step s i d e h = e ∙ rw (lt-ltb d 10 h)
-
-pub run_stop : (s : List ℕ) (i d : ℕ) → DigitAt s i d → 10 ≤ d → digit_run (drop i s) ≡ []
-run_stop s i d e h = e ∙ rw (le-ltb d 10 h)
+  pub digit_some : is_digit (get_or s i 0) ≡ true → digit_run (drop i s) ≡ (get_or s i 0 - 48) ∷ digit_run (drop (i + 1) s)
+  digit_some h = digit_here ∙ rw h
 
 pub run-within : (s : List ℕ) → length (digit_run s) ≤ length s
 unfolding digit_run
@@ -51,8 +37,8 @@ run-within (b ∷ s) = go (is_digit b) (run-within s)
     go true h = omega arith
     go false h = omega arith
 
-pub inside : (s : List ℕ) (i d : ℕ) → DigitAt s i d → d < 10 → i < length s
-inside s i d e h = omega (arith, run-within (drop i s), length-drop i s, ap length (run_step s i d e h))
+pub inside : (s : List ℕ) (i d : ℕ) {ds : List ℕ} → digit_run (drop i s) ≡ d ∷ ds → i < length s
+inside s i d e = omega (arith, run-within (drop i s), length-drop i s, ap length e)
 
 -- ---- the value, capped
 
@@ -72,35 +58,26 @@ cap_after (d ∷ ds) x =
 cap_same : (ds : List ℕ) (x y : ℕ) → cap x ≡ cap y → cap (value_after x ds) ≡ cap (value_after y ds)
 cap_same ds x y e = sym (cap_after ds x) ∙ ap (λ (n : ℕ). cap (value_after n ds)) e ∙ cap_after ds y
 
--- what holds at place i of the run from `at`, with v read so far and d the digit there
-pub record Reading (s : List ℕ) (at i v d : ℕ) : Type 0 where
-  pub digit : DigitAt s i d
+-- what holds at place i of the run from `at`, with v read so far
+pub record Reading (s : List ℕ) (at i v : ℕ) : Type 0 where
   pub small : v ≤ widest * 10 + 9
   pub past : i + length (digit_run (drop i s)) ≡ at + length (digit_run (drop at s))
   pub same : cap (value_after v (digit_run (drop i s))) ≡ cap (value_after 0 (digit_run (drop at s)))
 
-pub next : (s : List ℕ) (at i v d v' d' : ℕ) → Reading s at i v d → d < 10 → (cap v' ≡ cap (v * 10 + d)) × (v' ≤ widest * 10 + 9) → DigitAt s (i + 1) d'
-    → Reading s at (i + 1) v' d'
+pub next : (s : List ℕ) (at i v d v' : ℕ) → Reading s at i v → digit_run (drop i s) ≡ d ∷ digit_run (drop (i + 1) s)
+    → (cap v' ≡ cap (v * 10 + d)) × (v' ≤ widest * 10 + 9) → Reading s at (i + 1) v'
 unfolding value_after
-next s at i v d v' d' r h e e' =
-    let step : digit_run (drop i s) ≡ d ∷ digit_run (drop (i + 1) s) = run_step s i d r.digit h in
-    record {
-      digit = e';
-      small = e.1;
-      past = let p = rw step at r.past in omega arith;
-      same = cap_same (digit_run (drop (i + 1) s)) v' (v * 10 + d) e.0 ∙ rw step at r.same;
-    }
-
-pub within : (s : List ℕ) (at i v d : ℕ) → Reading s at i v d → d < 10 → i < length s
-within s at i v d r h = inside s i d r.digit h
+next s at i v d v' r step e = record {
+  small = e.1;
+  past = let p = rw step at r.past in omega arith;
+  same = cap_same (digit_run (drop (i + 1) s)) v' (v * 10 + d) e.0 ∙ rw step at r.same;
+}
 
 -- past the run
-pub past-run : (s : List ℕ) (at i v d : ℕ) → Reading s at i v d → 10 ≤ d
+pub past-run : (s : List ℕ) (at i v : ℕ) → Reading s at i v → digit_run (drop i s) ≡ []
     → (i ≡ at + length (digit_run (drop at s))) × (cap v ≡ cap (value_after 0 (digit_run (drop at s))))
 unfolding value_after
-past-run s at i v d r h =
-    let stop : digit_run (drop i s) ≡ [] = run_stop s i d r.digit h in
-    (let p = rw stop at r.past in omega arith, rw stop at r.same)
+past-run s at i v r stop = (let p = rw stop at r.past in omega arith, rw stop at r.same)
 
 -- ---- what is returned, from the capped value and the place past the run
 

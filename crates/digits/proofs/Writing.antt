@@ -1,45 +1,34 @@
 -- Laws of a number in decimal: its digits one by one, and how many there are. Assumes nothing.
-use Prim.Native.Nat.{ℕ, zero, suc, ◌+◌, ◌-◌, ◌/◌, ◌%◌, ◌^◌, ◌≤◌, ◌<◌}
+use Prim.Native.Nat.{ℕ, zero, suc, ◌+◌, ◌/◌, ◌%◌, ◌^◌, ◌≤◌, ◌<◌}
 use mathlib.Core.Path.{◌≡◌, refl, sym, ap, ◌∙◌}
 use mathlib.Core.List.{List, [], ◌∷◌, ◌++◌}
 use native.Mathlib.Omega.{arith}
 use native.Mathlib.Nat.{not-suc-le-zero, pow-suc, one-le-pow}
 use native.Mathlib.Decide.{dec_lt}
-use lib.ListN.{length, take, length-append, length-map}
-use lib.Seq.{length-take-le}
-use borrow.Author.Tests.{lt-ltb, le-ltb, le-leb, lt-leb, leb-true}
-use mathlib.Core.Bool.{Bool, true, false}
-use Rattle.parts.specs.Parts.{put, PutIs}
+use lib.ListN.{length, length-append, length-map}
+use borrow.Author.Tests.{lt-ltb, le-ltb, le-leb, lt-leb}
+use Rattle.parts.specs.Parts.{put}
 use Rattle.parts.proofs.Laws.{put_in_room, put_in_full}
-use Rattle.digits.specs.declared.Written.{Written}
-use Rattle.digits.specs.declared.Written.TheVariants.{Past, NoRoom}
+use Rattle.std.specs.Prelude.{Option, Some, None}
 use Rattle.digits.specs.Operand.{widest}
 use Rattle.digits.specs.Decimal.{digits_in, digits_of, ascii, decimal, WrittenIs}
 
 -- no second answer meets the promise of a writer
-pub written_once : {buffer : List ℕ} {at : ℕ} {text : List ℕ} {r s : Written} {x y : List ℕ}
+pub written_once : {buffer : List ℕ} {at : ℕ} {text : List ℕ} {r s : Option ℕ} {x y : List ℕ}
     → WrittenIs buffer at text r x → WrittenIs buffer at text s y → (r ≡ s) × (x ≡ y)
 written_once p q = (p.answers ∙ sym q.answers, p.leaves ∙ sym q.leaves)
 
 -- ---- the promise of a writer, met with room and without
 
 pub is_written : (buffer : List ℕ) (at : ℕ) (text : List ℕ) {next : ℕ} {after : List ℕ} → at + length text ≤ length buffer → next ≡ at + length text
-    → after ≡ put buffer at text → WrittenIs buffer at text (Past next) after
+    → after ≡ put buffer at text → WrittenIs buffer at text (Some next) after
 is_written buffer at text h e f = record {
-  answers = ap (λ (k : ℕ). Past k) e ∙ rw (le-leb (at + length text) (length buffer) h);
+  answers = ap (λ (k : ℕ). Some k) e ∙ rw (le-leb (at + length text) (length buffer) h);
   leaves = f ∙ sym (put_in_room buffer at text h);
 }
 
-pub is_refused : (buffer : List ℕ) (at : ℕ) (text : List ℕ) → length buffer < at + length text → WrittenIs buffer at text NoRoom buffer
+pub is_refused : (buffer : List ℕ) (at : ℕ) (text : List ℕ) → length buffer < at + length text → WrittenIs buffer at text None buffer
 is_refused buffer at text h = record { answers = rw (lt-leb (at + length text) (length buffer) h); leaves = sym (put_in_full buffer at text h) }
-
--- the same, told by `put_at`
-pub put_written : (buffer : List ℕ) (at : ℕ) (text : List ℕ) {next : ℕ} {after : List ℕ} → PutIs buffer at text true after → next ≡ at + length text
-    → WrittenIs buffer at text (Past next) after
-put_written buffer at text p e = record { answers = ap (λ (k : ℕ). Past k) e ∙ rw (← p.answers); leaves = p.leaves }
-
-pub put_refused : (buffer : List ℕ) (at : ℕ) (text : List ℕ) {after : List ℕ} → PutIs buffer at text false after → WrittenIs buffer at text NoRoom after
-put_refused buffer at text p = record { answers = rw (← p.answers); leaves = p.leaves }
 
 -- ---- the digits, one by one
 
@@ -128,26 +117,3 @@ length-least (suc k) n h = go (λ a. length-least k (n / 10) a) (dec_lt n 10)
     go rest (no m) =
         let l : 10 ≤ n = omega arith in
         omega (arith, length_more n l, rest (omega (arith, h, pow-suc 10 k)))
-
--- the first places, `count` of them, were handed to `put_at`
-module _ (buffer digits : List ℕ) (at n count : ℕ) (long : count ≤ length digits) (same : take count digits ≡ decimal n) where
-  number_put : {answer answer' : Bool} {after : List ℕ} → PutIs buffer at (take (count - 0) digits) answer after → answer ≡ answer'
-      → PutIs buffer at (decimal n) answer' after
-  number_put p t =
-      let all : count - 0 ≡ count = omega arith in
-      rw (← t) (rw (all, same) at p)
-
-  number-length : count ≡ length (decimal n)
-  number-length = sym (length-take-le count digits long) ∙ ap length same
-
-  pub number_fits : {answer : Bool} {after : List ℕ} → PutIs buffer at (take (count - 0) digits) answer after → answer ≡ true
-      → at + count ≤ length buffer
-  number_fits p t = omega (arith, number-length, leb-true (at + length (decimal n)) (length buffer) (sym (number_put p t).answers))
-
-  pub number-written : {answer : Bool} {after : List ℕ} → PutIs buffer at (take (count - 0) digits) answer after → answer ≡ true
-      → WrittenIs buffer at (decimal n) (Past (at + count)) after
-  number-written p t = put_written buffer at (decimal n) (number_put p t) (ap (λ (k : ℕ). at + k) number-length)
-
-  pub number-refused : {answer : Bool} {after : List ℕ} → PutIs buffer at (take (count - 0) digits) answer after → answer ≡ false
-      → WrittenIs buffer at (decimal n) NoRoom after
-  number-refused p t = put_refused buffer at (decimal n) (number_put p t)

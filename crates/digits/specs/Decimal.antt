@@ -1,9 +1,7 @@
 -- A number "in decimal without leading zeros". 01, "What comes back" and "The host's list". Assumes nothing.
-use Rattle.std.specs.Prelude.{ℕ, zero, suc, ◌+◌, ◌/◌, ◌%◌, List, [], ◌∷◌, ◌++◌, map, cond, ◌≡◌, length, ltb}
+use Rattle.std.specs.Prelude.{ℕ, zero, suc, ◌+◌, ◌/◌, ◌%◌, List, [], ◌∷◌, ◌++◌, map, cond, ◌≡◌, length, ltb, Option, Some, None}
 use Rattle.parts.specs.Parts.{fits_at, put_in}
 use Rattle.parts.specs.Letters.{byte}
-use Rattle.digits.specs.declared.Written.{Written}
-use Rattle.digits.specs.declared.Written.TheVariants.{Past, NoRoom}
 
 -- the digits of n, highest first, where k places hold them
 unfoldable pub digits_in : ℕ → ℕ → List ℕ
@@ -23,10 +21,10 @@ unfoldable pub decimal : ℕ → List ℕ
 decimal n = ascii (digits_of n)
 
 -- what writing text at a place answers: the place past it, or that there is no room
-abbrev pub written_at : List ℕ → ℕ → List ℕ → Written
-written_at buffer at text = cond (fits_at buffer at (length text)) (Past (at + length text)) NoRoom
+abbrev pub written_at : List ℕ → ℕ → List ℕ → Option ℕ
+written_at buffer at text = cond (fits_at buffer at (length text)) (Some (at + length text)) None
 
 -- the answer and the buffer after text was written at a place; without room nothing changes
-pub record WrittenIs (buffer : List ℕ) (at : ℕ) (text : List ℕ) (answer : Written) (after : List ℕ) : Type 0 where
+pub record WrittenIs (buffer : List ℕ) (at : ℕ) (text : List ℕ) (answer : Option ℕ) (after : List ℕ) : Type 0 where
   pub answers : answer ≡ written_at buffer at text
   pub leaves : after ≡ put_in buffer at text

@@ -3,7 +3,7 @@
 
 mod taking;
 
-ghost use Rattle.std.specs.Prelude.{◌≡◌, [], ◌∷◌, cond, ◌+◌, ◌-◌, ◌*◌, ◌<◌, ◌≤◌, min, drop, ltb, leb};
+ghost use Rattle.std.specs.Prelude.{◌≡◌, [], ◌∷◌, ◌+◌, ◌*◌, ◌<◌, ◌≤◌, min, drop, MatchOption};
 ghost use Rattle.digits.specs.Operand.{digit_run, widest, operand_at, operand_up_to};
 ghost use Rattle.digits.specs.Decimal.{decimal, WrittenIs};
 ghost use Rattle.digits.specs.ReadBack.{DigitClaims};
@@ -18,14 +18,6 @@ pub enum Operand {
     Above(usize),
 }
 
-#[derive(Clone, Copy)]
-pub enum Written {
-    // The place past what was written.
-    Past(usize),
-    // It does not fit; nothing was written.
-    NoRoom,
-}
-
 // The greatest number that 32 bits hold.
 const WIDEST: u64 = 4294967295;
 
@@ -38,19 +30,16 @@ pub fn read_operand(s: &[u8], at: usize) -> Operand
 {
     let mut i = at;
     let mut v: u64 = 0;
-    let mut d = digit_at(s, i);
-    while d < 10 {
+    while let Some(d) = digit_at(s, i) {
         v = push(v, d);
         i += 1;
-        d = digit_at(s, i);
     }
     if i == at {
         return Operand::Missing;
     }
-    if v <= WIDEST {
-        Operand::Number(v as u32, i)
-    } else {
-        Operand::Above(i)
+    match u32::try_from(v) {
+        Ok(n) => Operand::Number(n, i),
+        Err(_) => Operand::Above(i),
     }
 }
 
@@ -59,63 +48,61 @@ pub fn read_up_to(s: &[u8], at: usize, most: usize) -> Operand
     ensures { result ≡ operand_up_to most s.now at }
 {
     let operand = read_operand(s, at);
-    match operand {
-        Operand::Missing => Operand::Missing,
-        Operand::Number(n, next) => limited(n, next, at, most),
-        Operand::Above(next) => Operand::Above(next),
-    }
-}
-
-// A number whose digits stand from one place to another, where they are not too many.
-fn limited(n: u32, next: usize, at: usize, most: usize) -> Operand
-    requires { at ≤ next }
-    ensures { result ≡ cond (leb (next - at) most) (Operand.Number n next) (Operand.Above next) }
-{
-    if next - at <= most {
-        Operand::Number(n, next)
-    } else {
+    let Operand::Number(_, next) = operand else {
+        return operand;
+    };
+    if most < next - at {
         Operand::Above(next)
+    } else {
+        operand
     }
 }
 
-// Writes n in decimal without leading zeros from a place of the buffer.
-pub fn write_number(buffer: &mut [u8], at: usize, n: u32) -> Written
+// Writes n in decimal without leading zeros from a place of the buffer; the place past it, or None where there is no room.
+pub fn write_number(buffer: &mut [u8], at: usize, n: u32) -> Option<usize>
     ensures { WrittenIs buffer.old at (decimal n) result buffer.new }
 {
-    let mut digits = [0u8; 10];
+    let mut digits = [0u8; taking::MOST_DIGITS];
     let count = taking::make_digits(n, &mut digits);
-    if parts::put_at(buffer, at, &digits[0..count]) {
-        return Written::Past(at + count);
-    }
-    Written::NoRoom
+    write_bytes(buffer, at, &digits[..count])
 }
 
-// Writes one byte at a place of the buffer.
-pub fn write_byte(buffer: &mut [u8], at: usize, b: u8) -> Written
+// Writes bytes from a place of the buffer; the place past them, or None where there is no room.
+pub fn write_bytes(buffer: &mut [u8], at: usize, bytes: &[u8]) -> Option<usize>
+    ensures { WrittenIs buffer.old at bytes.now result buffer.new }
+{
+    if parts::put_at(buffer, at, bytes) {
+        Some(at + bytes.len())
+    } else {
+        None
+    }
+}
+
+// Writes one byte at a place of the buffer; the place past it, or None where there is no room.
+pub fn write_byte(buffer: &mut [u8], at: usize, b: u8) -> Option<usize>
     ensures { WrittenIs buffer.old at (b ∷ []) result buffer.new }
 {
     if buffer.len() <= at {
-        return Written::NoRoom;
+        return None;
     }
     buffer[at] = b;
-    Written::Past(at + 1)
+    Some(at + 1)
 }
 
-// The digit at a place of s, or 10 where no digit stands.
-fn digit_at(s: &[u8], at: usize) -> u32
-    ensures { digit_run (drop at s.now) ≡ cond (ltb result 10) (result ∷ digit_run (drop (at + 1) s.now)) [] }
+// The digit at a place of s, or None where no digit stands.
+fn digit_at(s: &[u8], at: usize) -> Option<u32>
+    ensures { MatchOption result (digit_run (drop at s.now) ≡ []) (λ d. (digit_run (drop at s.now) ≡ d ∷ digit_run (drop (at + 1) s.now)) × (d < 10)) }
 {
+    // By an index: an Option of a reference lies otherwise on a chip, where `chip/pointer-places` refuses it.
     if s.len() <= at {
-        return 10;
+        return None;
     }
     let b = s[at];
-    if b < b'0' {
-        return 10;
+    if b.is_ascii_digit() {
+        Some(u32::from(b - b'0'))
+    } else {
+        None
     }
-    if b'9' < b {
-        return 10;
-    }
-    (b - b'0') as u32
 }
 
 // A number with one digit more behind it; one that 32 bits do not hold stays as it is, above all that they do.
@@ -126,7 +113,7 @@ fn push(v: u64, d: u32) -> u64
     if WIDEST < v {
         return v;
     }
-    v * 10 + (d as u64)
+    v * 10 + u64::from(d)
 }
 
 // What is claimed of operands and decimals together.

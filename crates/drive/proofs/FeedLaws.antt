@@ -2,37 +2,34 @@
 -- Assumes nothing.
 use Prim.Native.Nat.{ℕ, ◌≤◌}
 use mathlib.Core.Path.{◌≡◌, refl, ap, ◌∙◌}
-use mathlib.Core.List.{List, [], ◌∷◌}
+use mathlib.Core.List.{List, []}
 use mathlib.Core.Bool.{Bool, true, false, not}
 use native.Mathlib.Omega.{arith}
 use lib.ListN.{length}
 use lib.Dec.{ltb}
-use types.Run.{OneOf}
-use denote.Enum.Declared.{tag_of}
 use borrow.Author.Tests.{ltb-false}
 use Rattle.parts.specs.Parts.{put_in}
 use Rattle.parts.proofs.Laws.{put_in_room, put_front}
-use Rattle.commands.proofs.ReadingLaws.{not_tag}
 use Rattle.image.specs.Image.{right_length}
 use Rattle.answers.specs.Packet.{packet_bytes, status_of}
 use Rattle.frames.specs.declared.Frame.{Frame}
 use Rattle.frames.specs.declared.Framing.{Framing}
 use Rattle.frames.specs.declared.Heard.{Heard}
 use Rattle.frames.specs.Receive.{Received, receiver_of, heard_with, receive_of}
-use Rattle.frames.specs.contracts.Frame as frame
 use Rattle.turns.specs.declared.Core.{Core}
 use Rattle.obeying.specs.declared.Obeyed.{Obeyed}
 use Rattle.obeying.specs.Obeying.{data_of, body_obeyed}
 use Rattle.obeying.specs.Deeds.{Obeys, tells, nothing-told}
 use Rattle.obeying.proofs.DeedLaws.{body-does}
-use Rattle.drive.specs.declared.Last.{Last}
+use Rattle.std.specs.Prelude.{Option, Ok, Err}
 use Rattle.drive.specs.declared.Record.{Record}
-use Rattle.drive.specs.declared.FeedAnswer.{FeedAnswer}
-use Rattle.drive.specs.contracts.FeedAnswer as answer
+use Rattle.drive.specs.declared.FeedRefused.{FeedRefused}
+use Rattle.drive.specs.FeedAnswer
+use Rattle.drive.specs.FeedAnswer.{FeedAnswer}
 use Rattle.drive.specs.Unit.{Drive, unit_of}
 use Rattle.drive.specs.Calls.{Feeding, feed_refused, received_by, frame_obeyed, body_for, body_by, received_obeyed, obeyed_by, packet_as, answer_to, answer_for, feed_taken, feed_of}
 use Rattle.drive.specs.Repeats.{last_after}
-use Rattle.drive.specs.Promises.{fed_with}
+use Rattle.drive.specs.Promises.{fed_taken}
 use Rattle.drive.specs.Steps.{feed_answer, WriteDone, PacketOf, sent_to, AnsweredIs}
 
 -- ---- a frame obeyed
@@ -42,9 +39,9 @@ frame-does Frame.Nothing body c = tells _ nothing-told
 frame-does Frame.Alone body c = body-does body c
 frame-does Frame.Group body c = body-does body c
 
--- what the `else` of a `let` knows
-completed : (f : Frame) (body : List ℕ) (c : Core) → OneOf (1 ∷ 2 ∷ []) (tag_of frame.the_type f) → body_obeyed body c ≡ frame_obeyed f body c
-completed Frame.Nothing body c k = absurd (not_tag 1 2 0 (λ e. omega arith) (λ e. omega arith) k)
+-- a frame was completed
+completed : (f : Frame) (body : List ℕ) (c : Core) → (f ≡ Frame.Nothing → ⊥) → body_obeyed body c ≡ frame_obeyed f body c
+completed Frame.Nothing body c k = absurd (k refl)
 completed Frame.Alone body c k = refl
 completed Frame.Group body c k = refl
 
@@ -82,9 +79,8 @@ module _ (u : Drive) (bytes image buffer : List ℕ) where
   taken = feed_taken (received_by u bytes) (body_by u bytes) (obeyed_by u bytes) u image buffer
 
   abbrev by_answer : FeedAnswer → Feeding
-  by_answer FeedAnswer.Taken = taken
-  by_answer FeedAnswer.BufferShort = feed_refused FeedAnswer.BufferShort u image buffer
-  by_answer FeedAnswer.ImageLength = feed_refused FeedAnswer.ImageLength u image buffer
+  by_answer (Ok done) = taken
+  by_answer (Err why) = feed_refused (Err why) u image buffer
 
   answered_by_lem : by_answer (feed_answer image buffer) ≡ feed_of u bytes image buffer
   unfolding feed_of
@@ -98,14 +94,8 @@ module _ (u : Drive) (bytes image buffer : List ℕ) where
       short true t = rw t
       short false t = wrong t (right_length image) refl
 
-  refused_by : (a : FeedAnswer) → OneOf (1 ∷ 2 ∷ []) (tag_of answer.the_type a) → feed_refused a u image buffer ≡ by_answer a
-  refused_by FeedAnswer.Taken k = absurd (not_tag 1 2 0 (λ e. omega arith) (λ e. omega arith) k)
-  refused_by FeedAnswer.BufferShort k = refl
-  refused_by FeedAnswer.ImageLength k = refl
-
-  pub fed-refused : (a : FeedAnswer) → a ≡ feed_answer image buffer → OneOf (1 ∷ 2 ∷ []) (tag_of answer.the_type a)
-      → feed_refused a u image buffer ≡ feed_of u bytes image buffer
-  fed-refused a e k = refused_by a k ∙ rw e answered_by_lem
+  pub fed-refused : (why : FeedRefused) → Err why ≡ feed_answer image buffer → feed_refused (Err why) u image buffer ≡ feed_of u bytes image buffer
+  fed-refused why e = rw (← e) at answered_by_lem
 
   pub fed-taken : FeedAnswer.Taken ≡ feed_answer image buffer → taken ≡ feed_of u bytes image buffer
   fed-taken e = rw (← e) at answered_by_lem
@@ -120,16 +110,15 @@ room-there image buffer e = go (ltb (length buffer) packet_bytes) refl
 
 module _ (u : Record) (h : Heard) (body text image buffer : List ℕ) where
   -- a completed frame from its steps
-  pub frame-fed : {kept text' image' buffer' : List ℕ} {o : Obeyed} {n : ℕ} {last : Last} → kept ≡ body_for u.last (heard_with h body)
+  pub frame-fed : {kept text' image' buffer' : List ℕ} {o : Obeyed} {n : ℕ} {last : Option ℕ} → kept ≡ body_for u.last (heard_with h body)
       → o ≡ body_obeyed kept u.core
       → WriteDone o.write kept text image text' image' → AnsweredIs h.frame (answer_to h.framing o text') buffer n buffer'
       → last ≡ last_after h.frame h.framing o.code u.last
-      → fed_with
+      → fed_taken
       (record {
         unit = record { core = o.core; progress = h.progress; number = u.number; last = last };
         consumed = h.consumed;
         answered = n;
-        answer = FeedAnswer.Taken;
       })
       body text' image' buffer'
       ≡ feed_taken (heard_with h body) (body_for u.last (heard_with h body)) (body_obeyed (body_for u.last (heard_with h body)) u.core) (unit_of u body text)
@@ -138,12 +127,11 @@ module _ (u : Record) (h : Heard) (body text image buffer : List ℕ) where
 
   -- none completed: nothing but the receiver changes
   pub nothing-fed : h.frame ≡ Frame.Nothing
-      → fed_with
+      → fed_taken
       (record {
         unit = record { core = u.core; progress = h.progress; number = u.number; last = u.last };
         consumed = h.consumed;
         answered = 0;
-        answer = FeedAnswer.Taken;
       })
       body text image buffer
       ≡ feed_taken (heard_with h body) (body_for u.last (heard_with h body)) (received_obeyed u.last (heard_with h body) u.core) (unit_of u body text) image
@@ -161,7 +149,7 @@ module _ (u : Record) (body text bytes image buffer : List ℕ) {after : List �
       ∙ fed-taken (unit_of u body text) bytes image buffer a
 
   pub fed-frame : FeedAnswer.Taken ≡ feed_answer image buffer → heard_with h after ≡ receive_of (receiver_of u.progress body) u.number bytes
-      → OneOf (1 ∷ 2 ∷ []) (tag_of frame.the_type h.frame)
+      → (h.frame ≡ Frame.Nothing → ⊥)
       → feed_taken (heard_with h after) (body_for u.last (heard_with h after)) (body_obeyed (body_for u.last (heard_with h after)) u.core)
       (unit_of u after text) image buffer
       ≡ feed_of (unit_of u body text) bytes image buffer

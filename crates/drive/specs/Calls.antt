@@ -1,6 +1,6 @@
 -- The calls that firmware makes: start, feed, turn. 01, "Frames", "What comes back", "Image of the programs", "A turn"; 02, E1 and E9.
 -- Assumes nothing.
-use Rattle.std.specs.Prelude.{ℕ, List, [], Bool, true, false, cond, not, length, ltb}
+use Rattle.std.specs.Prelude.{ℕ, List, [], Bool, true, false, cond, not, length, ltb, Option, None}
 use Rattle.parts.specs.Parts.{put_in, padded_text}
 use Rattle.image.specs.Image.{right_length, slots, slot_good, slots_older, slot_text}
 use Rattle.frames.specs.declared.Frame.{Frame}
@@ -16,10 +16,12 @@ use Rattle.answers.specs.Packet.{packet, packet_bytes, status_of}
 use Rattle.answers.specs.Oem.{oem_packet}
 use Rattle.obeying.specs.declared.Obeyed.{Obeyed}
 use Rattle.obeying.specs.Obeying.{data_of, nothing_obeyed, body_obeyed, text_written, image_written}
-use Rattle.drive.specs.declared.Last.{Last}
-use Rattle.drive.specs.declared.StartAnswer.{StartAnswer}
-use Rattle.drive.specs.declared.FeedAnswer.{FeedAnswer}
-use Rattle.drive.specs.declared.TurnAnswer.{TurnAnswer}
+use Rattle.drive.specs.StartAnswer
+use Rattle.drive.specs.StartAnswer.{StartAnswer}
+use Rattle.drive.specs.FeedAnswer
+use Rattle.drive.specs.FeedAnswer.{FeedAnswer}
+use Rattle.drive.specs.TurnAnswer
+use Rattle.drive.specs.TurnAnswer.{TurnAnswer}
 use Rattle.drive.specs.Unit.{Drive, drive}
 use Rattle.drive.specs.Repeats.{chosen, last_after}
 
@@ -48,11 +50,11 @@ begun_on false n = ended slot_broken fresh_core
 
 unfoldable pub fresh_unit : ℕ → List ℕ → List ℕ → Drive
 fresh_unit number image body =
-    drive number (fresh_receiver body) (padded_text (slot_text image 0)) (begun_on (slot_good image 0) (length (slot_text image 0))) Last.Never
+    drive number (fresh_receiver body) (padded_text (slot_text image 0)) (begun_on (slot_good image 0) (length (slot_text image 0))) None
 
 -- "no unit": the record of number 0, which no address calls, idle; the texts are as they were lent
 unfoldable pub no_unit : List ℕ → List ℕ → Drive
-no_unit body text = drive 0 (fresh_receiver body) text fresh_core Last.Never
+no_unit body text = drive 0 (fresh_receiver body) text fresh_core None
 
 -- "at start: unit number not 1 to 16, then image not 4,160 bytes, then bad image"; 02, E9: a program stored earlier with an operand
 -- of more than ten digits "at start .. does not refuse the unit"
@@ -90,10 +92,10 @@ frame_obeyed Frame.Alone body c = body_obeyed body c
 frame_obeyed Frame.Group body c = body_obeyed body c
 
 -- the body that is obeyed: a repeat chooses it
-abbrev pub body_for : Last → Received → List ℕ
+abbrev pub body_for : Option ℕ → Received → List ℕ
 body_for last r = chosen last r.framing (body_in r.receiver)
 
-abbrev pub received_obeyed : Last → Received → Core → Obeyed
+abbrev pub received_obeyed : Option ℕ → Received → Core → Obeyed
 received_obeyed last r c = frame_obeyed r.frame (body_for last r) c
 
 abbrev pub body_by : Drive → List ℕ → List ℕ

@@ -1,21 +1,20 @@
 -- For the code: the steps of a feed call and of a turn, one after the other.
 -- Assumes nothing.
-use Rattle.std.specs.Prelude.{ℕ, List, [], cond, ◌≡◌, length, ltb}
+use Rattle.std.specs.Prelude.{ℕ, List, [], cond, ◌≡◌, length, ltb, Result, Ok, Err}
 use Rattle.parts.specs.Parts.{put_in}
 use Rattle.image.specs.Image.{right_length}
 use Rattle.answers.specs.Packet.{packet_bytes}
 use Rattle.frames.specs.declared.Frame.{Frame}
 use Rattle.frames.specs.declared.Framing.{Framing}
 use Rattle.turns.specs.declared.Core.{Core}
-use Rattle.turns.specs.declared.Enter.{Enter}
 use Rattle.turns.specs.declared.Stepped.{Stepped}
-use Rattle.turns.specs.Turns.{turn_core, action_answered}
+use Rattle.turns.specs.Turns.{turn_core}
 use Rattle.obeying.specs.declared.Write.{Write}
 use Rattle.obeying.specs.Obeying.{text_written, image_written}
-use Rattle.drive.specs.declared.FeedAnswer.{FeedAnswer}
-use Rattle.drive.specs.declared.TurnAnswer.{TurnAnswer}
-use Rattle.drive.specs.declared.TurnedCore.{TurnedCore}
-use Rattle.drive.specs.Calls.{packet_as, most_sample, no_action}
+use Rattle.drive.specs.declared.TurnRefused.{TurnRefused}
+use Rattle.drive.specs.FeedAnswer
+use Rattle.drive.specs.FeedAnswer.{FeedAnswer}
+use Rattle.drive.specs.Calls.{packet_as, most_sample}
 
 -- ---- feed
 
@@ -47,17 +46,10 @@ pub record AnsweredIs (frame : Frame) (p buffer : List ℕ) (n : ℕ) (after : L
 
 -- ---- turn
 
-abbrev pub core_refused : TurnAnswer → Core → TurnedCore
-core_refused a c = record { core = c; enter = Enter.Stay; action = no_action; answer = a }
-
-abbrev pub core_taken : Stepped → TurnedCore
-core_taken s =
-    record { core = s.core; enter = s.enter; action = action_answered s.core.settings.turned s.core.motor.last; answer = TurnAnswer.Taken }
-
 -- a turn of the core, or why it is refused
-abbrev pub core_turned : Core → ℕ → ℕ → ℕ → List ℕ → List ℕ → TurnedCore
+abbrev pub core_turned : Core → ℕ → ℕ → ℕ → List ℕ → List ℕ → Result Stepped TurnRefused
 core_turned c sample ms steps text image =
     cond (right_length image)
-    (cond (ltb most_sample sample) (core_refused TurnAnswer.Sample c)
-    (cond (ltb c.motor.last.number steps) (core_refused TurnAnswer.Steps c) (core_taken (turn_core sample ms steps text image c))))
-    (core_refused TurnAnswer.ImageLength c)
+    (cond (ltb most_sample sample) (Err TurnRefused.Sample)
+    (cond (ltb c.motor.last.number steps) (Err TurnRefused.Steps) (Ok (turn_core sample ms steps text image c))))
+    (Err TurnRefused.ImageLength)

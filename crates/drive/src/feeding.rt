@@ -1,15 +1,14 @@
 // What a feed call hears, and a completed frame obeyed.
-ghost use Rattle.std.specs.Prelude.{◌≡◌, List, ℕ, ◌≤◌, length, not};
+ghost use Rattle.std.specs.Prelude.{◌≡◌, ◌≤◌, length, not};
 ghost use Rattle.answers.specs.Packet.{packet_bytes, status_of};
 ghost use Rattle.frames.specs.Receive.{heard_with};
 ghost use Rattle.obeying.specs.Obeying.{body_obeyed};
 ghost use Rattle.drive.specs.Unit.{unit_of};
-ghost use Rattle.drive.specs.declared.FeedAnswer.{FeedAnswer};
-ghost use Rattle.drive.specs.Calls.{feed_refused, body_for, feed_taken};
-ghost use Rattle.drive.specs.Promises.{fed_with};
+ghost use Rattle.drive.specs.Calls.{body_for, feed_taken};
+ghost use Rattle.drive.specs.Promises.{fed_taken};
 ghost use Rattle.drive.specs.Steps.{feed_answer, WriteDone};
 
-use crate::{Fed, FeedAnswer, Record};
+use crate::{Fed, FeedRefused, Record};
 use frames::Heard;
 use obeying::Write;
 use turns::Core;
@@ -17,30 +16,17 @@ use turns::Core;
 // The longest packet.
 const PACKET_BYTES: usize = 262;
 
-// How a feed call is answered.
-pub(crate) fn feed_answer(image: &[u8], buffer: &[u8]) -> FeedAnswer
+// Whether a feed call is taken, or why it is refused.
+pub(crate) fn feed_answer(image: &[u8], buffer: &[u8]) -> Result<(), FeedRefused>
     ensures { result ≡ feed_answer image.now buffer.now }
 {
     if buffer.len() < PACKET_BYTES {
-        return FeedAnswer::BufferShort;
+        return Err(FeedRefused::BufferShort);
     }
     if !image::is_right_length(image) {
-        return FeedAnswer::ImageLength;
+        return Err(FeedRefused::ImageLength);
     }
-    FeedAnswer::Taken
-}
-
-// A refused call: nothing is heard, nothing changes.
-pub(crate) fn refuse_feed(u: Record, answer: FeedAnswer) -> Fed
-    ensures { (body text image buffer : List ℕ)
-        → fed_with result body text image buffer ≡ feed_refused answer (unit_of u body text) image buffer }
-{
-    Fed {
-        unit: u,
-        consumed: 0,
-        answered: 0,
-        answer: answer,
-    }
+    Ok(())
 }
 
 // A call that completes no frame.
@@ -49,22 +35,15 @@ pub(crate) fn feed_nothing(u: Record, h: Heard) -> Fed
       unit = record { core = u.core; progress = h.progress; number = u.number; last = u.last };
       consumed = h.consumed;
       answered = 0;
-      answer = FeedAnswer.Taken;
     } }
 {
-    let core = u.core;
-    let progress = h.progress;
-    let last = u.last;
     Fed {
         unit: Record {
-            core: core,
-            progress: progress,
-            number: u.number,
-            last: last,
+            progress: h.progress,
+            ..u
         },
         consumed: h.consumed,
         answered: 0,
-        answer: FeedAnswer::Taken,
     }
 }
 
@@ -78,45 +57,35 @@ pub(crate) fn feed_frame(
     buffer: &mut [u8],
 ) -> Fed
     requires { packet_bytes ≤ length buffer.old }
-    ensures { fed_with result body.now text.new image.new buffer.new
+    ensures { fed_taken result body.now text.new image.new buffer.new
         ≡ feed_taken (heard_with h body.now) (body_for u.last (heard_with h body.now))
         (body_obeyed (body_for u.last (heard_with h body.now)) u.core)
         (unit_of u body.now text.old) image.old buffer.old }
 {
-    let progress = h.progress;
-    let c = u.core;
-    let framing = h.framing;
-    let last = u.last;
-    let kept = parts::first(body, progress.length);
-    let chosen = crate::repeats::choose(last, framing, kept);
-    let o = obeying::obey(c, chosen);
-    let write = o.write;
-    apply(write, chosen, text, image);
-    let frame = h.frame;
-    let core = o.core;
-    let flow = core.flow;
-    let tell = o.tell;
-    let status = status_after(core, o.code);
+    let kept = parts::first(body, h.progress.length);
+    let chosen = crate::repeats::choose(u.last, h.framing, kept);
+    let o = obeying::obey(u.core, chosen);
+    apply(o.write, chosen, text, image);
+    let status = status_after(o.core, o.code);
     let answered = crate::answering::answer_completed(
-        frame,
-        framing,
+        h.frame,
+        h.framing,
         status,
-        tell,
-        flow.length,
+        o.tell,
+        o.core.flow.length,
         text,
         buffer,
     );
-    let number = crate::repeats::last_after(frame, framing, o.code, last);
+    let last = crate::repeats::last_after(h.frame, h.framing, o.code, u.last);
     Fed {
         unit: Record {
-            core: core,
-            progress: progress,
+            core: o.core,
+            progress: h.progress,
             number: u.number,
-            last: number,
+            last,
         },
         consumed: h.consumed,
-        answered: answered,
-        answer: FeedAnswer::Taken,
+        answered,
     }
 }
 
@@ -137,7 +106,8 @@ fn apply(w: Write, body: &[u8], text: &mut [u8; crate::TEXT_BYTES], image: &mut 
             parts::put_text(text, parts::first(body, n));
         }
         Write::Store { slot, at, length } => {
-            image::store(image, slot, parts::part(body, at, length));
+            // What cannot be stored leaves the image as it was; an obeyed store can be.
+            let _ = image::store(image, slot, parts::part(body, at, length));
         }
         Write::Clear => {
             image::clear(image);

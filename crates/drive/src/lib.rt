@@ -8,21 +8,14 @@ mod repeats;
 mod starting;
 mod turning;
 
-ghost use Rattle.std.specs.Prelude.{◌≡◌};
+ghost use Rattle.std.specs.Prelude.{◌≡◌, List, ℕ};
 ghost use Rattle.drive.specs.Unit.{unit_of};
-ghost use Rattle.drive.specs.Calls.{start_of, feed_of};
+ghost use Rattle.drive.specs.Calls.{no_unit, start_of, feed_of};
 ghost use Rattle.drive.specs.Promises.{started_with, fed_with, TurnedIs};
 
 use frames::{Frame, Progress};
-use image::Checked;
-use turns::{Action, Core, Enter};
-
-// The number of the last OEM frame that was not refused; at start there is none.
-#[derive(Clone, Copy)]
-pub enum Last {
-    Never,
-    Number(u8),
-}
+use image::BadImage;
+use turns::{Action, Core};
 
 // A unit without its texts.
 #[derive(Clone, Copy)]
@@ -30,70 +23,65 @@ pub struct Record {
     pub core: Core,
     pub progress: Progress,
     pub number: u8,
-    pub last: Last,
+    // The number of the last OEM frame that was not refused; at start there is none.
+    pub last: Option<u8>,
 }
 
-// How a start is answered.
-#[derive(Clone, Copy)]
-pub enum StartAnswer {
-    Started,
+// Why a start is refused.
+#[derive(Clone, Copy, PartialEq, Eq)]
+pub enum StartRefused {
     UnitNumber,
     ImageLength,
     ImageBad,
 }
 
-#[derive(Clone, Copy)]
-pub struct Started {
-    pub unit: Record,
-    pub answer: StartAnswer,
-}
-
-// How a feed call is answered.
-#[derive(Clone, Copy)]
-pub enum FeedAnswer {
-    Taken,
+// Why a feed call is refused.
+#[derive(Clone, Copy, PartialEq, Eq)]
+pub enum FeedRefused {
     BufferShort,
     ImageLength,
 }
 
+// What a feed call answers.
 #[derive(Clone, Copy)]
 pub struct Fed {
     pub unit: Record,
     pub consumed: usize,
     // Bytes of the answer at the front of the buffer; 0 where there is none.
     pub answered: usize,
-    pub answer: FeedAnswer,
 }
 
-// How a turn is answered.
-#[derive(Clone, Copy)]
-pub enum TurnAnswer {
-    Taken,
+// Why a turn is refused.
+#[derive(Clone, Copy, PartialEq, Eq)]
+pub enum TurnRefused {
     ImageLength,
     Sample,
     Steps,
 }
 
+// What a turn answers.
 #[derive(Clone, Copy)]
 pub struct Turned {
     pub unit: Record,
     pub action: Action,
-    pub answer: TurnAnswer,
-}
-
-// A turn without the number, the receiver and the text.
-#[derive(Clone, Copy)]
-struct TurnedCore {
-    core: Core,
-    enter: Enter,
-    action: Action,
-    answer: TurnAnswer,
 }
 
 // The bytes lent for the body being received, one more than the longest body has, and for the current text.
 pub(crate) const BODY_BYTES: usize = 257;
 
 pub(crate) const TEXT_BYTES: usize = 256;
+
+// No unit: the record of number 0, which no address calls, for a program that needs one before a start.
+pub fn no_unit() -> Record
+    ensures { (body text : List ℕ) → unit_of result body text ≡ no_unit body text }
+{
+    Record {
+        core: turns::fresh_core(),
+        progress: frames::fresh(),
+        number: 0,
+        last: None,
+    }
+}
 
 // The unit of a number, idle or running program 0 of the image. Operands of too many digits in programs stored earlier do not
 // refuse it. A refused start leaves the texts as they were lent.
@@ -102,22 +90,22 @@ pub fn start(
     image: &[u8],
     body: &mut [u8; BODY_BYTES],
     text: &mut [u8; TEXT_BYTES],
-) -> Started
+) -> Result<Record, StartRefused>
     ensures { started_with result body.new text.new
         ≡ start_of number image.now body.old text.old }
 {
     if !starting::is_unit(number) {
-        return starting::refuse_start(StartAnswer::UnitNumber);
+        return Err(StartRefused::UnitNumber);
     }
-    let checked = image::check_older(image);
-    match checked {
-        Checked::Good => starting::start_unit(number, image, text),
-        Checked::WrongLength => starting::refuse_start(StartAnswer::ImageLength),
-        Checked::Bad => starting::refuse_start(StartAnswer::ImageBad),
+    match image::check_older(image) {
+        Ok(()) => Ok(starting::start_unit(number, image, text)),
+        Err(BadImage::WrongLength) => Err(StartRefused::ImageLength),
+        Err(BadImage::Bad) => Err(StartRefused::ImageBad),
     }
 }
 
-// The bytes of a feed call, up to the end of the first frame for this unit: it is obeyed and, if for it alone, answered.
+// The bytes of a feed call, up to the end of the first frame for this unit: it is obeyed and, if for it alone, answered. A
+// refused call leaves the unit, the texts, the image and the buffer as they were.
 pub fn feed(
     u: Record,
     body: &mut [u8; BODY_BYTES],
@@ -125,24 +113,19 @@ pub fn feed(
     bytes: &[u8],
     image: &mut [u8],
     buffer: &mut [u8],
-) -> Fed
-    ensures { fed_with result body.new text.new image.new buffer.new
+) -> Result<Fed, FeedRefused>
+    ensures { fed_with u result body.new text.new image.new buffer.new
         ≡ feed_of (unit_of u body.old text.old) bytes.now image.old buffer.old }
 {
-    let answer = feeding::feed_answer(image, buffer);
-    let FeedAnswer::Taken = answer else {
-        return feeding::refuse_feed(u, answer);
+    feeding::feed_answer(image, buffer)?;
+    let heard = frames::receive(u.progress, body, u.number, bytes);
+    let Frame::Nothing = heard.frame else {
+        return Ok(feeding::feed_frame(u, heard, body, text, image, buffer));
     };
-    let before = u.progress;
-    let heard = frames::receive(before, body, u.number, bytes);
-    let frame = heard.frame;
-    let Frame::Nothing = frame else {
-        return feeding::feed_frame(u, heard, body, text, image, buffer);
-    };
-    feeding::feed_nothing(u, heard)
+    Ok(feeding::feed_nothing(u, heard))
 }
 
-// One turn: the report counted, then a wait served or a command taken.
+// One turn: the report counted, then a wait served or a command taken. A refused turn leaves the unit and the text as they were.
 pub fn turn(
     u: Record,
     text: &mut [u8; TEXT_BYTES],
@@ -150,26 +133,13 @@ pub fn turn(
     ms: u32,
     steps: u32,
     image: &[u8],
-) -> Turned
+) -> Result<Turned, TurnRefused>
     ensures { TurnedIs u text.old sample ms steps image.now result text.new }
 {
-    let c = u.core;
-    let t = turning::turn_core(c, sample, ms, steps, text, image);
-    let enter = t.enter;
-    turning::enter_text(text, enter, image);
-    let core = t.core;
-    let action = t.action;
-    let answer = t.answer;
-    let progress = u.progress;
-    let last = u.last;
-    Turned {
-        unit: Record {
-            core: core,
-            progress: progress,
-            number: u.number,
-            last: last,
-        },
-        action: action,
-        answer: answer,
-    }
+    let t = turning::turn_core(u.core, sample, ms, steps, text, image)?;
+    turning::enter_text(text, t.enter, image);
+    Ok(Turned {
+        unit: Record { core: t.core, ..u },
+        action: turns::answer_action(t.core.settings.turned, t.core.motor.last),
+    })
 }

@@ -2,26 +2,25 @@
 #![tactic(auto)]
 
 ghost use Rattle.std.specs.Prelude.{◌≡◌, ◌<◌, get_or, set};
-ghost use Rattle.flow.specs.Flow.{begun, gone, closed, loop_begun, loop_ended};
+ghost use Rattle.flow.specs.Flow.{no_loop, begun, gone, closed, loop_begun, loop_ended};
 
 // "At most four open".
 const MOST_OPEN: usize = 4;
 
-// Where a run stands in its text: the text's length, the next place, and for each open loop its start and how often its body has run.
+// An open loop: where its body begins, and how often that has run.
+#[derive(Clone, Copy)]
+pub struct Loop {
+    pub start: usize,
+    pub done: u32,
+}
+
+// Where a run stands in its text: the text's length, the next place, and the open loops, the outermost first.
 #[derive(Clone, Copy)]
 pub struct Flow {
     pub length: usize,
     pub at: usize,
-    pub starts: [usize; MOST_OPEN],
-    pub dones: [u32; MOST_OPEN],
+    pub loops: [Loop; MOST_OPEN],
     pub depth: usize,
-}
-
-// Where a run goes on, or that it has gone astray.
-#[derive(Clone, Copy)]
-pub struct Flowed {
-    pub flow: Flow,
-    pub astray: bool,
 }
 
 // A text of so many bytes, at its beginning.
@@ -29,67 +28,48 @@ pub fn begin(length: usize) -> Flow
     ensures { result ≡ begun length }
 {
     Flow {
-        length: length,
+        length,
         at: 0,
-        starts: [0; MOST_OPEN],
-        dones: [0; MOST_OPEN],
+        loops: [Loop { start: 0, done: 0 }; MOST_OPEN],
         depth: 0,
     }
 }
 
 // Gone on to a place.
-pub fn go_on(f: Flow, next: usize) -> Flow
+pub fn go_on(mut f: Flow, next: usize) -> Flow
     ensures { result ≡ gone next f }
 {
-    let mut g = f;
-    g.at = next;
-    g
+    f.at = next;
+    f
 }
 
-// A loop begins, behind which `next` stands.
-pub fn begin_loop(f: Flow, next: usize) -> Flowed
+// A loop begins, behind which `next` stands; None where none may begin.
+pub fn begin_loop(f: Flow, next: usize) -> Option<Flow>
     ensures { result ≡ loop_begun next f }
 {
-    let depth = f.depth;
-    if depth < MOST_OPEN {
-        return Flowed {
-            flow: Flow {
-                length: f.length,
-                at: next,
-                starts: put_start(f, depth, next),
-                dones: put_done(f, depth, 0),
-                depth: depth + 1,
-            },
-            astray: false,
-        };
+    if MOST_OPEN <= f.depth {
+        return None;
     }
-    Flowed {
-        flow: f,
-        astray: true,
-    }
+    let begun = Loop {
+        start: next,
+        done: 0,
+    };
+    Some(Flow {
+        at: next,
+        loops: put_loop(f.loops, f.depth, begun),
+        depth: f.depth + 1,
+        ..f
+    })
 }
 
-// A loop ends with the count n, behind which `next` stands.
-pub fn end_loop(f: Flow, n: u32, next: usize) -> Flowed
+// A loop ends with the count n, behind which `next` stands; None where none is open.
+pub fn end_loop(f: Flow, n: u32, next: usize) -> Option<Flow>
     ensures { result ≡ loop_ended n next f }
 {
-    let depth = f.depth;
-    if depth == 0 {
-        return Flowed {
-            flow: f,
-            astray: true,
-        };
+    if f.depth == 0 || MOST_OPEN < f.depth {
+        return None;
     }
-    if MOST_OPEN < depth {
-        return Flowed {
-            flow: f,
-            astray: true,
-        };
-    }
-    Flowed {
-        flow: close(f, depth - 1, n, next),
-        astray: false,
-    }
+    Some(close(f, f.depth - 1, n, next))
 }
 
 // The loop at a depth goes back to its start until its body has run n times, then it is left.
@@ -97,69 +77,52 @@ fn close(f: Flow, d: usize, n: u32, next: usize) -> Flow
     requires { d < 4 }
     ensures { result ≡ closed d n next f }
 {
-    let mut g = f;
+    let open = loop_at(f.loops, d);
     if n == 0 {
-        g.at = start_of(f, d);
-        return g;
+        return Flow {
+            at: open.start,
+            ..f
+        };
     }
-    let done = done_of(f, d);
-    if done < n - 1 {
-        let dones = put_done(f, d, done + 1);
-        g.dones = dones;
-        g.at = start_of(f, d);
-        return g;
+    if open.done < n - 1 {
+        let again = Loop {
+            done: open.done + 1,
+            ..open
+        };
+        return Flow {
+            at: open.start,
+            loops: put_loop(f.loops, d, again),
+            ..f
+        };
     }
-    g.at = next;
-    g.depth = d;
-    g
+    Flow {
+        at: next,
+        depth: d,
+        ..f
+    }
 }
 
-// The start of the loop at a depth: each place is read by its own number, so that the record stays in registers.
-fn start_of(f: Flow, d: usize) -> usize
+// The loop at a depth: each place is read by its own number, so that the record stays in registers.
+fn loop_at(loops: [Loop; MOST_OPEN], d: usize) -> Loop
     requires { d < 4 }
-    ensures { result ≡ get_or f.starts d 0 }
+    ensures { result ≡ get_or loops d no_loop }
 {
     match d {
-        0 => f.starts[0],
-        1 => f.starts[1],
-        2 => f.starts[2],
-        _ => f.starts[3],
+        0 => loops[0],
+        1 => loops[1],
+        2 => loops[2],
+        _ => loops[3],
     }
 }
 
-// How often the body of the loop at a depth has run, read in the same way.
-fn done_of(f: Flow, d: usize) -> u32
-    requires { d < 4 }
-    ensures { result ≡ get_or f.dones d 0 }
-{
-    match d {
-        0 => f.dones[0],
-        1 => f.dones[1],
-        2 => f.dones[2],
-        _ => f.dones[3],
-    }
-}
-
-// The starts with x at a depth: each place is written by its own number, so that the record stays in registers.
-fn put_start(f: Flow, d: usize, x: usize) -> [usize; MOST_OPEN]
-    ensures { result ≡ set f.starts d x }
+// The loops with x at a depth: each place is written by its own number, so that the record stays in registers.
+fn put_loop(loops: [Loop; MOST_OPEN], d: usize, x: Loop) -> [Loop; MOST_OPEN]
+    ensures { result ≡ set loops d x }
 {
     [
-        if d == 0 { x } else { f.starts[0] },
-        if d == 1 { x } else { f.starts[1] },
-        if d == 2 { x } else { f.starts[2] },
-        if d == 3 { x } else { f.starts[3] },
-    ]
-}
-
-// How often the bodies have run with x at a depth, written in the same way.
-fn put_done(f: Flow, d: usize, x: u32) -> [u32; MOST_OPEN]
-    ensures { result ≡ set f.dones d x }
-{
-    [
-        if d == 0 { x } else { f.dones[0] },
-        if d == 1 { x } else { f.dones[1] },
-        if d == 2 { x } else { f.dones[2] },
-        if d == 3 { x } else { f.dones[3] },
+        if d == 0 { x } else { loops[0] },
+        if d == 1 { x } else { loops[1] },
+        if d == 2 { x } else { loops[2] },
+        if d == 3 { x } else { loops[3] },
     ]
 }

@@ -1,5 +1,8 @@
 -- The one pass gives the count: while no count went over the bound the tally has the exact counts, innermost first; once one did, their sum is over it and stays so,
 -- as a loop runs once at least. Assumes nothing.
+use Rattle.std.specs.Prelude.{Ok, Err}
+use Rattle.forecast.specs.declared.Uncounted.TheVariants.{Letter, TooMany}
+use Rattle.forecast.specs.Count.{Counted}
 use Prim.Native.Nat.{ℕ, ◌+◌, ◌-◌, ◌*◌, ◌≤◌, ◌<◌}
 use mathlib.Core.Path.{◌≡◌, refl, sym, ap, ◌∙◌}
 use mathlib.Core.List.{List, [], ◌∷◌}
@@ -19,8 +22,6 @@ use Rattle.courses.specs.Meaning.{course_of, cost, course_in, commands_in}
 use Rattle.courses.specs.Counting.{counting}
 use Rattle.courses.proofs.CourseLaws.{is_course}
 use Rattle.courses.proofs.CountingLaws.{counts}
-use Rattle.forecast.specs.declared.Counted.{Counted}
-use Rattle.forecast.specs.declared.Counted.TheVariants.{Commands, Letter, TooMany}
 use Rattle.forecast.specs.declared.Tally.{Tally}
 use Rattle.forecast.specs.Count.{most_counted, barred_act, any_barred, bounded, count_text}
 use Rattle.forecast.specs.Pass.{tally, marked, exceeded, tally_more, tally_opened, tally_closed, tallied, tally_on, tally_told, text_counted}
@@ -39,7 +40,7 @@ letter-one y (Plain a) e =
     cases (λ (z : Tally). z.letter ≡ true) (barred_act a) (λ _. refl)
     (λ _. cases (λ (z : Tally). z.letter ≡ true) (ltb y.here most_counted) (λ _. e) (λ _. e))
 
-letter_kept : (ds : List Command) (y : Tally) → y.letter ≡ true → tally_told (tally_on y ds) ≡ Letter
+letter_kept : (ds : List Command) (y : Tally) → y.letter ≡ true → tally_told (tally_on y ds) ≡ Err Letter
 unfolding tally_on
 letter_kept [] y e = rw e
 letter_kept (d ∷ ds) y e = letter_kept ds (tallied y d) (letter-one y d e)
@@ -129,12 +130,12 @@ head (x ∷ s) = x
 
 -- what is answered of the commands to come, with these counts
 abbrev exactly : List Command → List ℕ → Counted
-exactly ds s = cond (any_barred ds) Letter (bounded (head (counting ds s)))
+exactly ds s = cond (any_barred ds) (Err Letter) (bounded (head (counting ds s)))
 
 ended : (y : Tally) (x : ℕ) → y.letter ≡ false → Tied y (x ∷ []) → tally_told y ≡ bounded x
 ended y x e t = rw e (go y.over refl)
   where
-    go : (o : Bool) → y.over ≡ o → cond o TooMany (Commands y.here) ≡ bounded x
+    go : (o : Bool) → y.over ≡ o → cond o (Err TooMany) (Ok y.here) ≡ bounded x
     go true f = let h = t.past f in let l : most_counted < x = omega arith in rw (lt-leb _ _ l)
     go false f = let h = (t.same f).0 in let l = t.small in rw (h, le-leb _ _ l)
 
@@ -168,7 +169,7 @@ unfolding tally_on counting any_barred structured
 at_close n ds k depth y x [] g l e t = let m : 0 < depth = ltb-true _ _ ((and-eq-true_iff (ltb 0 depth) _).0 g).0 in absurd (omega arith)
 at_close n ds k depth y x (a ∷ s) g l e t = go (eqb n 0) refl
   where
-    go : (b : Bool) → eqb n 0 ≡ b → tally_told (tally_on (cond (eqb n 0) (marked y) (tally_closed n y)) ds) ≡ cond (eqb n 0 || any_barred ds) Letter (bounded (head (counting ds ((a + n * (x + 1)) ∷ s))))
+    go : (b : Bool) → eqb n 0 ≡ b → tally_told (tally_on (cond (eqb n 0) (marked y) (tally_closed n y)) ds) ≡ cond (eqb n 0 || any_barred ds) (Err Letter) (bounded (head (counting ds ((a + n * (x + 1)) ∷ s))))
     go true z = rw z (letter_kept ds (marked y) refl)
     go false z =
         let w : length s ≡ depth - 1 = omega arith in
@@ -178,7 +179,7 @@ at_plain : (a : Act) (ds : List Command) → Counts ds → Counts (Plain a ∷ d
 unfolding tally_on counting any_barred structured
 at_plain a ds k depth y x s g l e t = go (barred_act a) refl
   where
-    go : (b : Bool) → barred_act a ≡ b → tally_told (tally_on (cond (barred_act a) (marked y) (tally_more y)) ds) ≡ cond (barred_act a || any_barred ds) Letter (bounded (head (counting ds ((x + 1) ∷ s))))
+    go : (b : Bool) → barred_act a ≡ b → tally_told (tally_on (cond (barred_act a) (marked y) (tally_more y)) ds) ≡ cond (barred_act a || any_barred ds) (Err Letter) (bounded (head (counting ds ((x + 1) ∷ s))))
     go true z = rw z (letter_kept ds (marked y) refl)
     go false z = rw z (k depth (tally_more y) (x + 1) s g l (one-letter y e) (one_tied y x s t))
 
@@ -195,11 +196,11 @@ pass_counts (Plain a ∷ ds) = at_plain a ds (pass_counts ds)
 abbrev begun : Tally
 begun = tally 0 0 0 0 0 false false
 
-pub commands-counted : (ds : List Command) → structured 0 ds ≡ true → tally_told (tally_on begun ds) ≡ cond (any_barred ds) Letter (bounded (cost (course_of ds)))
+pub commands-counted : (ds : List Command) → structured 0 ds ≡ true → tally_told (tally_on begun ds) ≡ cond (any_barred ds) (Err Letter) (bounded (cost (course_of ds)))
 commands-counted ds g =
     let c : counting ds (0 ∷ []) ≡ cost (course_of ds) ∷ [] = rw (is_course ds g) at (counts (course_of ds)) in
     let t : Tied begun (0 ∷ []) = record { small = omega arith; same = λ o. (refl, tt); past = λ o. absurd (false≢true o) } in
-    pass_counts ds 0 begun 0 [] g refl refl t ∙ ap (λ (l : List ℕ). cond (any_barred ds) Letter (bounded (head l))) c
+    pass_counts ds 0 begun 0 [] g refl refl t ∙ ap (λ (l : List ℕ). cond (any_barred ds) (Err Letter) (bounded (head l))) c
 
 pub text-counted : (t : List ℕ) → Checked t → text_counted t ≡ count_text t
 unfolding text_counted count_text commands_in course_in

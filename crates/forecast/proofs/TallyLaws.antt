@@ -1,4 +1,6 @@
 -- A text counted on from a place: with the commands counted so far, the rest gives the whole. Assumes nothing.
+use Rattle.std.specs.Prelude.{Err}
+use Rattle.forecast.specs.declared.Uncounted.TheVariants.{Refused}
 use Prim.Native.Nat.{ℕ, ◌≤◌}
 use mathlib.Core.Path.{◌≡◌, refl, sym, ◌∙◌}
 use mathlib.Core.List.{List}
@@ -11,7 +13,6 @@ use Rattle.commands.specs.Reading.{fault, read_at}
 use Rattle.commands.proofs.ReadingLaws.{read_step}
 use Rattle.lines.specs.Texts.{Reading, commands, faulty, placed, unplaced, before, reading_from}
 use Rattle.lines.proofs.TextLaws.{reading_law}
-use Rattle.forecast.specs.declared.Counted.TheVariants.{Refused}
 use Rattle.forecast.specs.declared.Tally.{Tally}
 use Rattle.forecast.specs.Pass.{tally, tallied, tally_on, tally_told, told_on, text_counted}
 
@@ -32,7 +33,7 @@ pub tally-on : {t : List ℕ} {y : Tally} {at : ℕ} {c : Command} {n : ℕ} →
 tally-on {t} {y} {at} {c} {n} h e =
     record { same = h.same ∙ rw (reading_law t at, e) (told-next y _ c (reading_from t n)); inside = (read_step t at e).1 }
 
-pub tally-bad : {t : List ℕ} {y : Tally} {at k p : ℕ} → Tallying t y at → read_at t at ≡ Bad k p → Refused (fault k p) ≡ text_counted t
+pub tally-bad : {t : List ℕ} {y : Tally} {at k p : ℕ} → Tallying t y at → read_at t at ≡ Bad k p → Err (Refused (fault k p)) ≡ text_counted t
 tally-bad {t} {y} {at} h e = sym (h.same ∙ rw (reading_law t at, e))
 
 pub tally-end : {t : List ℕ} {y : Tally} {at : ℕ} → Tallying t y at → read_at t at ≡ End → tally_told y ≡ text_counted t

@@ -1,8 +1,7 @@
 -- What is claimed of the count. 02, E14. That it comes true in every run is claimed in `runs`. Assumes nothing.
-use Rattle.std.specs.Prelude.{ℕ, ◌≤◌, List, ◌≡◌, length}
+use Rattle.std.specs.Prelude.{ℕ, ◌≤◌, List, ◌≡◌, length, Ok}
 use Rattle.lines.specs.Loops.{Checked}
 use Rattle.courses.specs.Meaning.{Steady, unrolled, course_in}
-use Rattle.forecast.specs.declared.Counted.TheVariants.{Commands}
 use Rattle.forecast.specs.Count.{most_counted, body_text, count_of}
 use Rattle.forecast.specs.Examples.{count_examples, counts, given}
 
@@ -17,5 +16,5 @@ pub record Told (b : List ℕ) (k : ℕ) : Type 0 where
   pub bound : k ≤ most_counted
 
 pub record ForecastClaims : Type 0 where
-  pub told : (b : List ℕ) (k : ℕ) → count_of b ≡ Commands k → Told b k
+  pub told : (b : List ℕ) (k : ℕ) → count_of b ≡ Ok k → Told b k
   pub edges : counts count_examples ≡ given count_examples

@@ -1,5 +1,8 @@
 -- For the code: the commands of a text counted in one pass. That it is the count is proved. Assumes nothing.
-use Rattle.std.specs.Prelude.{ℕ, ◌+◌, ◌*◌, List, [], ◌∷◌, Bool, true, false, cond, take, ltb, leb, eqb}
+use Rattle.forecast.specs.declared.Uncounted.TheVariants.{Refused, Letter, TooMany}
+use Rattle.commands.specs.declared.Fault.{Fault}
+use Rattle.forecast.specs.Count.{Counted}
+use Rattle.std.specs.Prelude.{ℕ, ◌+◌, ◌*◌, List, [], ◌∷◌, Bool, true, false, cond, take, ltb, leb, eqb, Result, Ok, Err}
 use Rattle.parts.specs.Parts.{part}
 use Rattle.commands.specs.declared.Command.{Command}
 use Rattle.commands.specs.declared.Command.TheVariants.{LoopBegin, LoopEnd, Skip, Jump, Plain}
@@ -7,8 +10,6 @@ use Rattle.commands.specs.declared.Act.{Act}
 use Rattle.lines.specs.declared.Taken.{Taken}
 use Rattle.lines.specs.Texts.{Reading, commands, faulty, unplaced, reading_from}
 use Rattle.lines.specs.Bodies.{line_of}
-use Rattle.forecast.specs.declared.Counted.{Counted}
-use Rattle.forecast.specs.declared.Counted.TheVariants.{Commands, Refused, Letter, TooMany}
 use Rattle.forecast.specs.declared.Tally.{Tally}
 use Rattle.forecast.specs.Count.{most_counted, barred_act}
 
@@ -59,20 +60,20 @@ tally_on t (d ∷ ds) = tally_on (tallied t d) ds
 
 -- at the end
 abbrev pub tally_told : Tally → Counted
-tally_told t = cond t.letter Letter (cond t.over TooMany (Commands t.here))
+tally_told t = cond t.letter (Err Letter) (cond t.over (Err TooMany) (Ok t.here))
 
 abbrev pub told_on : Tally → Reading → Counted
 told_on t (commands ds) = tally_told (tally_on t (unplaced ds))
-told_on t (faulty f) = Refused f
+told_on t (faulty f) = Err (Refused f)
 
 unfoldable pub text_counted : List ℕ → Counted
 text_counted t = told_on (tally 0 0 0 0 0 false false) (reading_from t 0)
 
 -- of a line or a store
-abbrev pub taken_counted : Taken → List ℕ → Counted
-taken_counted (Taken.Refused f) b = Refused f
-taken_counted (Taken.Line n run) b = text_counted (take n b)
-taken_counted (Taken.Store slot at n) b = text_counted (part b at n)
+abbrev pub taken_counted : Result Taken Fault → List ℕ → Counted
+taken_counted (Err f) b = Err (Refused f)
+taken_counted (Ok (Taken.Line n run)) b = text_counted (take n b)
+taken_counted (Ok (Taken.Store slot at n)) b = text_counted (part b at n)
 
 unfoldable pub line_counted : List ℕ → Counted
 line_counted b = taken_counted (line_of b) b

@@ -3,14 +3,14 @@ ghost use Rattle.std.specs.Prelude.{◌≡◌, ◌+◌, ◌*◌, ◌<◌, leb};
 ghost use Rattle.forecast.specs.Count.{most_counted, barred_act};
 ghost use Rattle.forecast.specs.Pass.{marked, exceeded, tally_more, tally_opened, loop_closed, plain_tallied, tallied, tally_told, text_counted};
 
-use crate::{Counted, Tally};
+use crate::{Tally, Uncounted};
 use commands::{Act, Command, Fault, Read};
 
 // 2^63 - 1.
 const MOST: u64 = 9223372036854775807;
 
 // Reads a text to its end or its first fault, and counts.
-pub(crate) fn count_text(text: &[u8]) -> Counted
+pub(crate) fn count_text(text: &[u8]) -> Result<u64, Uncounted>
     ensures { result ≡ text_counted text.now }
 {
     let mut tally = Tally {
@@ -23,18 +23,15 @@ pub(crate) fn count_text(text: &[u8]) -> Counted
         over: false,
     };
     let mut at: usize = 0;
+    // Each command's end is told by what reads it, so no iterator walks the text.
     loop {
-        let r = commands::read_command(text, at);
-        match r {
+        match commands::read_command(text, at) {
             Read::At(c, next) => {
                 tally = tally_one(tally, c);
                 at = next;
             }
             Read::Bad(code, place) => {
-                return Counted::Refused(Fault {
-                    code: code,
-                    place: place,
-                });
+                return Err(Uncounted::Refused(Fault { code, place }));
             }
             Read::End => {
                 return tell(tally);
@@ -50,8 +47,7 @@ fn tally_one(t: Tally, c: Command) -> Tally
     match c {
         Command::LoopBegin => begin_loop(t),
         Command::LoopEnd(n) => end_loop(t, n),
-        Command::Skip(_) => mark(t),
-        Command::Jump(_) => mark(t),
+        Command::Skip(_) | Command::Jump(_) => mark(t),
         Command::Plain(a) => tally_plain(t, a),
     }
 }
@@ -60,48 +56,42 @@ fn tally_one(t: Tally, c: Command) -> Tally
 fn mark(t: Tally) -> Tally
     ensures { result ≡ marked t }
 {
-    let mut u = t;
-    u.letter = true;
-    u
+    Tally { letter: true, ..t }
+}
+
+// A count over the bound.
+fn exceed(t: Tally) -> Tally
+    ensures { result ≡ exceeded t }
+{
+    Tally { over: true, ..t }
 }
 
 // A command that is taken once, each time that it stands next.
 fn one_more(t: Tally) -> Tally
     ensures { result ≡ tally_more t }
 {
-    let mut u = t;
     if t.here < MOST {
-        u.here = t.here + 1;
-        return u;
+        Tally {
+            here: t.here + 1,
+            ..t
+        }
+    } else {
+        exceed(t)
     }
-    u.over = true;
-    u
 }
 
 // A plain command.
 fn tally_plain(t: Tally, a: Act) -> Tally
     ensures { result ≡ plain_tallied t a }
 {
-    if is_barred(a) {
-        return mark(t);
-    }
-    one_more(t)
+    if is_barred(a) { mark(t) } else { one_more(t) }
 }
 
 // Whether a plain command is on the list: `H`, `P0`, `D0`.
 fn is_barred(a: Act) -> bool
     ensures { result ≡ barred_act a }
 {
-    match a {
-        Act::MoveTo(_) => false,
-        Act::MoveUp(n) => n == 0,
-        Act::MoveDown(n) => n == 0,
-        Act::SetPosition(_) => false,
-        Act::Home(_) => false,
-        Act::Set(_, _) => false,
-        Act::Delay(_) => false,
-        Act::WaitInput(_) => true,
-    }
+    matches!(a, Act::WaitInput(_) | Act::MoveUp(0) | Act::MoveDown(0))
 }
 
 // A loop begins: its `g` is counted outside, and its body has cost nothing yet.
@@ -115,8 +105,7 @@ fn begin_loop(t: Tally) -> Tally
         second: u.first,
         third: u.second,
         fourth: u.third,
-        letter: u.letter,
-        over: u.over,
+        ..u
     }
 }
 
@@ -127,20 +116,17 @@ fn end_loop(t: Tally, n: u32) -> Tally
     if n == 0 {
         return mark(t);
     }
-    let here = t.here;
-    let around = t.first;
-    if fits(around, here, n) {
-        return Tally {
-            here: around + n as u64 * (here + 1),
-            first: t.second,
-            second: t.third,
-            third: t.fourth,
-            fourth: 0,
-            letter: t.letter,
-            over: t.over,
-        };
+    if !fits(t.first, t.here, n) {
+        return exceed(t);
     }
-    exceed(t)
+    Tally {
+        here: t.first + u64::from(n) * (t.here + 1),
+        first: t.second,
+        second: t.third,
+        third: t.fourth,
+        fourth: 0,
+        ..t
+    }
 }
 
 // Whether a loop's cost and what stands around it stay within the bound: told before the product is made.
@@ -148,30 +134,18 @@ fn fits(around: u64, here: u64, n: u32) -> bool
     requires { 0 < n }
     ensures { result ≡ leb (around + n * (here + 1)) most_counted }
 {
-    if MOST < around {
-        return false;
-    }
-    here < (MOST - around) / n as u64
-}
-
-// A count over the bound.
-fn exceed(t: Tally) -> Tally
-    ensures { result ≡ exceeded t }
-{
-    let mut u = t;
-    u.over = true;
-    u
+    around <= MOST && here < (MOST - around) / u64::from(n)
 }
 
 // The answer at the end of a text.
-fn tell(t: Tally) -> Counted
+fn tell(t: Tally) -> Result<u64, Uncounted>
     ensures { result ≡ tally_told t }
 {
     if t.letter {
-        return Counted::Letter;
+        return Err(Uncounted::Letter);
     }
     if t.over {
-        return Counted::TooMany;
+        return Err(Uncounted::TooMany);
     }
-    Counted::Commands(t.here)
+    Ok(t.here)
 }

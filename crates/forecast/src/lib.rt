@@ -11,10 +11,9 @@ ghost use Rattle.forecast.specs.Claims.{ForecastClaims};
 use commands::Fault;
 use lines::{Body, Taken};
 
-// How many commands it will take, or why that is not said.
-#[derive(Clone, Copy)]
-pub enum Counted {
-    Commands(u64),
+// Why it is not said how many commands it will take.
+#[derive(Clone, Copy, PartialEq, Eq)]
+pub enum Uncounted {
     // The line check refuses the body.
     Refused(Fault),
     // The text has an `e`, `S`, `H`, a bare `G`, or a `G`, `P` or `D` of 0.
@@ -24,7 +23,7 @@ pub enum Counted {
 }
 
 // What a text has shown so far: what each open loop's body has cost, innermost first, and last the text outside; whether a letter was refused, and whether a
-// count went over the bound.
+// count went over the bound. Two flags stay: both are found before it is known which is told, a letter wherever it stands (`tally_told`).
 #[derive(Clone, Copy)]
 struct Tally {
     here: u64,
@@ -37,33 +36,22 @@ struct Tally {
 }
 
 // How many commands a run of a body's text takes when nothing stops it.
-pub fn count(body: &[u8]) -> Counted
+pub fn count(body: &[u8]) -> Result<u64, Uncounted>
     ensures { result ≡ count_of body.now }
 {
-    let kind = lines::body_of(body);
-    match kind {
-        Body::Refused(f) => Counted::Refused(f),
-        Body::Empty => Counted::Commands(0),
-        Body::Immediate(_) => Counted::Commands(0),
-        Body::Run => Counted::Commands(0),
-        Body::Again => Counted::Commands(0),
+    match lines::body_of(body).map_err(Uncounted::Refused)? {
         Body::Line => count_line(body),
+        _ => Ok(0),
     }
 }
 
 // The same of a line or a store.
-fn count_line(body: &[u8]) -> Counted
+fn count_line(body: &[u8]) -> Result<u64, Uncounted>
     ensures { result ≡ line_counted body.now }
 {
-    let taken = lines::line_of(body);
-    match taken {
-        Taken::Refused(f) => Counted::Refused(f),
-        Taken::Line { length, run: _ } => counting::count_text(parts::first(body, length)),
-        Taken::Store {
-            slot: _,
-            at,
-            length,
-        } => counting::count_text(parts::part(body, at, length)),
+    match lines::line_of(body).map_err(Uncounted::Refused)? {
+        Taken::Line { length, .. } => counting::count_text(parts::first(body, length)),
+        Taken::Store { at, length, .. } => counting::count_text(parts::part(body, at, length)),
     }
 }
 

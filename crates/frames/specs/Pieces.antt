@@ -7,7 +7,7 @@ use Rattle.frames.specs.declared.Framing.{Framing}
 use Rattle.frames.specs.declared.Head.{Head}
 use Rattle.frames.specs.declared.Advanced.{Advanced}
 use Rattle.parts.specs.Letters.{slash, cr, stx}
-use Rattle.frames.specs.Receive.{Receiver, Received, Stepped, receiver_at, ours, placed, quiet, stored, closed_by_cr, past, receive_of}
+use Rattle.frames.specs.Receive.{Receiver, Received, Stepped, receiver_of, ours, placed, quiet, stored, closed_by_cr, past, receive_of}
 
 -- what a CR completes
 abbrev pub completed : Place → Frame
@@ -43,11 +43,11 @@ in_plain w b r =
 
 -- the receiver there, nothing completed
 abbrev pub quiet_at : Place → ℕ → Head
-quiet_at p n = record { place = p; length = n; frame = Frame.Nothing; framing = Framing.Plain }
+quiet_at p n = record { progress = record { place = p; length = n }; frame = Frame.Nothing; framing = Framing.Plain }
 
 -- put together with the body
 abbrev pub whole_of : Head → List ℕ → Receiver
-whole_of h body = receiver_at h.place h.length body
+whole_of h body = receiver_of h.progress body
 
 abbrev pub stepped_at : Head → List ℕ → Stepped
 stepped_at h body = record { receiver = whole_of h body; frame = h.frame; framing = h.framing }

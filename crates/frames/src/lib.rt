@@ -9,6 +9,8 @@ ghost use Rattle.frames.specs.Pieces.{completed, is_outside, leaves_body, in_pla
 ghost use Rattle.frames.specs.declared.Place.{Place};
 ghost use Rattle.frames.specs.Claims.{FrameClaims};
 
+use checksum::{ETX, STX};
+
 // Where the receiver stands: outside a frame; of a plain frame in the address place, or in the body of one for this unit alone
 // or for a group of it; of an OEM frame in the address place, the sequence place, the body or the checksum place, with whom it
 // is for, its sequence byte, and the sum of its bytes so far.
@@ -24,7 +26,7 @@ pub enum Place {
     OemSum(Frame, u8, u8),
 }
 
-// What has been completed: nothing, a frame for this unit alone, or one for a group of it.
+// What has been completed: nothing, a frame for this unit alone, or one for a group of it. Three cases of 01, not an Option's two.
 #[derive(Clone, Copy)]
 pub enum Frame {
     Nothing,
@@ -57,19 +59,14 @@ pub struct Heard {
 }
 
 // A frame is `/`, an address byte, a body, CR.
-const SLASH: u8 = b'/';
+pub const SLASH: u8 = b'/';
 
-const CR: u8 = 13;
+pub const CR: u8 = 13;
 
-// An OEM frame is 02, an address byte, a sequence byte, a body, 03, the checksum of all these.
-const STX: u8 = 2;
+// An OEM frame is 02, an address byte, a sequence byte, a body, 03, the checksum of all these. Sequence bytes are 30 to 3F hex.
+pub const FIRST_SEQUENCE: u8 = 0x30;
 
-const ETX: u8 = 3;
-
-// Sequence bytes are 30 to 3F hex.
-const FIRST_SEQUENCE: u8 = 0x30;
-
-const LAST_SEQUENCE: u8 = 0x3F;
+pub const LAST_SEQUENCE: u8 = 0x3F;
 
 // The body has 0 to 256 bytes; one more is kept of a longer one.
 const MOST_KEPT: usize = 257;
@@ -77,7 +74,7 @@ const MOST_KEPT: usize = 257;
 // Units 1 to 16 are the bytes after `0`; pairs are two apart from `A` on, fours four apart from `Q` on, all is `_`.
 const UNITS: u8 = 16;
 
-const ZERO: u8 = b'0';
+pub const ZERO: u8 = b'0';
 
 const PAIRS: u8 = b'A';
 
@@ -99,23 +96,15 @@ pub fn fresh() -> Progress
 pub fn receive(p: Progress, body: &mut [u8; MOST_KEPT], unit: u8, bytes: &[u8]) -> Heard
     ensures { heard_with result body.new ≡ receive_of (receiver_of p body.old) unit bytes.now }
 {
-    let place = p.place;
-    let length = p.length;
-    let mut h = Head {
-        place,
-        length,
-        frame: Frame::Nothing,
-        framing: Framing::Plain,
-    };
+    let mut h = at(p.place, p.length);
+    // A step takes one byte or many, and the answer counts them: no iterator over the bytes would be plainer.
     let mut i: usize = 0;
     while i < bytes.len() {
         let a = advance(h, body, unit, bytes, i);
         h = a.head;
         i = a.next;
-        let f = h.frame;
-        if ends(f) {
-            let g = h.framing;
-            return apart(h, i, f, g);
+        if ends(h.frame) {
+            return apart(h, i, h.frame, h.framing);
         }
     }
     apart(h, i, Frame::Nothing, Framing::Plain)
@@ -124,8 +113,7 @@ pub fn receive(p: Progress, body: &mut [u8; MOST_KEPT], unit: u8, bytes: &[u8]) 
 // The receiver without its body, and what the last byte completed.
 #[derive(Clone, Copy)]
 struct Head {
-    place: Place,
-    length: usize,
+    progress: Progress,
     frame: Frame,
     framing: Framing,
 }
@@ -142,10 +130,8 @@ fn apart(h: Head, consumed: usize, frame: Frame, framing: Framing) -> Heard
     ensures { (body : List ℕ)
         → heard_with result body ≡ record { receiver = whole_of h body; consumed = consumed; frame = frame; framing = framing } }
 {
-    let place = h.place;
-    let length = h.length;
     Heard {
-        progress: Progress { place, length },
+        progress: h.progress,
         consumed,
         frame,
         framing,
@@ -156,11 +142,7 @@ fn apart(h: Head, consumed: usize, frame: Frame, framing: Framing) -> Heard
 fn ends(f: Frame) -> bool
     ensures { result ≡ ours f }
 {
-    match f {
-        Frame::Nothing => false,
-        Frame::Alone => true,
-        Frame::Group => true,
-    }
+    matches!(f, Frame::Alone | Frame::Group)
 }
 
 // One byte more, or many at once: most stand in a plain body or outside a frame.
@@ -168,35 +150,31 @@ fn advance(h: Head, body: &mut [u8; MOST_KEPT], unit: u8, bytes: &[u8], i: usize
     requires { i < length bytes.now }
     ensures { Advances (whole_of h body.old) unit bytes.now i result body.new }
 {
-    let place = h.place;
-    let length = h.length;
-    if inside(place) {
-        return keep(place, length, body, bytes, i);
+    let p = h.progress;
+    if inside(p.place) {
+        return keep(p, body, bytes, i);
     }
-    if outside(place) {
-        return look_out(length, bytes, i);
+    if outside(p.place) {
+        return look_out(p.length, bytes, i);
     }
-    let b = bytes[i];
     Advanced {
-        head: step(place, length, body, unit, b),
+        head: step(p, body, unit, bytes[i]),
         next: i + 1,
     }
 }
 
 // The bytes of a plain body, up to and with the one that ends it.
-fn keep(place: Place, kept: usize, body: &mut [u8; MOST_KEPT], bytes: &[u8], i: usize) -> Advanced
-    requires { (i < length bytes.now) × (ours (completed place) ≡ true) }
-    ensures { (u : ℕ) → Advances (receiver_at place kept body.old) u bytes.now i result body.new }
+fn keep(p: Progress, body: &mut [u8; MOST_KEPT], bytes: &[u8], i: usize) -> Advanced
+    requires { (i < length bytes.now) × (ours (completed p.place) ≡ true) }
+    ensures { (u : ℕ) → Advances (receiver_of p body.old) u bytes.now i result body.new }
 {
-    let mut n = kept;
-    let mut next = i;
-    while next < bytes.len() {
-        let b = bytes[next];
-        next += 1;
+    let mut n = p.length;
+    for k in i..bytes.len() {
+        let b = bytes[k];
         if leaves(b) {
             return Advanced {
-                head: leave(completes(place), n, b),
-                next,
+                head: leave(completes(p.place), n, b),
+                next: k + 1,
             };
         }
         if n < MOST_KEPT {
@@ -205,8 +183,8 @@ fn keep(place: Place, kept: usize, body: &mut [u8; MOST_KEPT], bytes: &[u8], i: 
         }
     }
     Advanced {
-        head: at(place, n),
-        next,
+        head: at(p.place, n),
+        next: bytes.len(),
     }
 }
 
@@ -215,77 +193,63 @@ fn look_out(kept: usize, bytes: &[u8], i: usize) -> Advanced
     requires { i < length bytes.now }
     ensures { (u : ℕ) (body : List ℕ) → Advances (receiver_at Place.Outside kept body) u bytes.now i result body }
 {
-    let mut next = i;
-    while next < bytes.len() {
-        let b = bytes[next];
-        next += 1;
-        if b == SLASH {
+    for k in i..bytes.len() {
+        if bytes[k] == SLASH {
             return Advanced {
                 head: at(Place::Address, kept),
-                next,
+                next: k + 1,
             };
         }
-        if b == STX {
+        if bytes[k] == STX {
             return Advanced {
                 head: at(Place::OemAddress, kept),
-                next,
+                next: k + 1,
             };
         }
     }
     Advanced {
         head: at(Place::Outside, kept),
-        next,
+        next: bytes.len(),
     }
 }
 
 // What one byte makes of the receiver.
-fn step(place: Place, length: usize, body: &mut [u8; MOST_KEPT], unit: u8, b: u8) -> Head
-    ensures { stepped_at result body.new ≡ byte_received (receiver_at place length body.old) unit b }
+#[tactic(auto, unfolding(crate::specs::Receive::byte_received))]
+fn step(p: Progress, body: &mut [u8; MOST_KEPT], unit: u8, b: u8) -> Head
+    ensures { stepped_at result body.new ≡ byte_received (receiver_of p body.old) unit b }
 {
-    if opens(SLASH, place, b) {
-        return at(Place::Address, length);
+    if opens(SLASH, p.place, b) {
+        return at(Place::Address, p.length);
     }
-    if opens(STX, place, b) {
-        return at(Place::OemAddress, length);
+    if opens(STX, p.place, b) {
+        return at(Place::OemAddress, p.length);
     }
-    take(place, length, body, unit, b)
+    take(p, body, unit, b)
 }
 
 // Whether b is the byte x that begins a frame, and not in the checksum place.
 fn opens(x: u8, p: Place, b: u8) -> bool
     ensures { result ≡ begins x p b }
 {
-    if b == x {
-        return !summing(p);
-    }
-    false
+    b == x && !summing(p)
 }
 
 // Whether the receiver stands in the checksum place.
 fn summing(p: Place) -> bool
     ensures { result ≡ not (elsewhere p) }
 {
-    match p {
-        Place::Outside => false,
-        Place::Address => false,
-        Place::Alone => false,
-        Place::Group => false,
-        Place::OemAddress => false,
-        Place::OemSequence(_, _) => false,
-        Place::OemBody(_, _, _) => false,
-        Place::OemSum(_, _, _) => true,
-    }
+    matches!(p, Place::OemSum(_, _, _))
 }
 
 // A byte that begins no frame.
-fn take(place: Place, length: usize, body: &mut [u8; MOST_KEPT], unit: u8, b: u8) -> Head
-    ensures { stepped_at result body.new ≡ other_byte place unit b (receiver_at place length body.old) }
+fn take(p: Progress, body: &mut [u8; MOST_KEPT], unit: u8, b: u8) -> Head
+    ensures { stepped_at result body.new ≡ other_byte p.place unit b (receiver_of p body.old) }
 {
-    match place {
-        Place::Outside => at(place, length),
+    let length = p.length;
+    match p.place {
+        Place::Outside => at(Place::Outside, length),
         Place::Address => in_address(length, unit, b),
-        Place::Alone => add(Frame::Alone, Place::Alone, length, body, b),
-        Place::Group => add(Frame::Group, Place::Group, length, body, b),
+        Place::Alone | Place::Group => add(completes(p.place), p, body, b),
         Place::OemAddress => in_oem_address(length, unit, b),
         Place::OemSequence(w, s) => in_oem_sequence(w, s, length, b),
         Place::OemBody(w, q, s) => in_oem_body(w, q, s, length, body, b),
@@ -304,16 +268,7 @@ fn inside(p: Place) -> bool
 fn outside(p: Place) -> bool
     ensures { result ≡ is_outside p }
 {
-    match p {
-        Place::Outside => true,
-        Place::Address => false,
-        Place::Alone => false,
-        Place::Group => false,
-        Place::OemAddress => false,
-        Place::OemSequence(_, _) => false,
-        Place::OemBody(_, _, _) => false,
-        Place::OemSum(_, _, _) => false,
-    }
+    matches!(p, Place::Outside)
 }
 
 // The receiver there, and nothing completed.
@@ -321,8 +276,7 @@ fn at(place: Place, length: usize) -> Head
     ensures { result ≡ quiet_at place length }
 {
     Head {
-        place,
-        length,
+        progress: Progress { place, length },
         frame: Frame::Nothing,
         framing: Framing::Plain,
     }
@@ -334,17 +288,10 @@ fn finish(w: Frame, g: Framing, length: usize) -> Head
 {
     match w {
         Frame::Nothing => at(Place::Outside, length),
-        Frame::Alone => Head {
-            place: Place::Outside,
-            length,
-            frame: Frame::Alone,
+        Frame::Alone | Frame::Group => Head {
+            frame: w,
             framing: g,
-        },
-        Frame::Group => Head {
-            place: Place::Outside,
-            length,
-            frame: Frame::Group,
-            framing: g,
+            ..at(Place::Outside, length)
         },
     }
 }
@@ -354,31 +301,18 @@ fn completes(p: Place) -> Frame
     ensures { result ≡ completed p }
 {
     match p {
-        Place::Outside => Frame::Nothing,
-        Place::Address => Frame::Nothing,
         Place::Alone => Frame::Alone,
         Place::Group => Frame::Group,
-        Place::OemAddress => Frame::Nothing,
-        Place::OemSequence(_, _) => Frame::Nothing,
-        Place::OemBody(_, _, _) => Frame::Nothing,
-        Place::OemSum(_, _, _) => Frame::Nothing,
+        _ => Frame::Nothing,
     }
 }
 
-// Whether a byte ends a plain body: the CR, or a new frame. All three are at most `/`, and letters and digits are above it.
+// Whether a byte ends a plain body: the CR, or a new frame. All three are at most `/`, and letters and digits are above it: without
+// the first test a byte of a long body costs 4 instructions more (tried).
 fn leaves(b: u8) -> bool
     ensures { result ≡ leaves_body b }
 {
-    if SLASH < b {
-        return false;
-    }
-    if b == CR {
-        return true;
-    }
-    if b == STX {
-        return true;
-    }
-    b == SLASH
+    b <= SLASH && matches!(b, CR | STX | SLASH)
 }
 
 // What such a byte makes of the receiver in the body of a frame for w.
@@ -396,26 +330,26 @@ fn leave(w: Frame, length: usize, b: u8) -> Head
 }
 
 // The CR of a frame for w, or one byte more.
-fn add(w: Frame, place: Place, length: usize, body: &mut [u8; MOST_KEPT], b: u8) -> Head
+fn add(w: Frame, p: Progress, body: &mut [u8; MOST_KEPT], b: u8) -> Head
     ensures { stepped_at result body.new
-        ≡ closed_by_cr w b (receiver_at place length body.old)
-        (quiet (stored b (receiver_at place length body.old))) }
+        ≡ closed_by_cr w b (receiver_of p body.old) (quiet (stored b (receiver_of p body.old))) }
 {
     if b == CR {
-        return finish(w, Framing::Plain, length);
+        return finish(w, Framing::Plain, p.length);
     }
-    store(place, length, body, b)
+    store(p, body, b)
 }
 
 // One body byte more, where it is kept.
-fn store(place: Place, length: usize, body: &mut [u8; MOST_KEPT], b: u8) -> Head
-    ensures { stepped_at result body.new ≡ quiet (stored b (receiver_at place length body.old)) }
+#[tactic(auto, unfolding(crate::specs::Receive::stored))]
+fn store(p: Progress, body: &mut [u8; MOST_KEPT], b: u8) -> Head
+    ensures { stepped_at result body.new ≡ quiet (stored b (receiver_of p body.old)) }
 {
-    if length < MOST_KEPT {
-        body[length] = b;
-        return at(place, length + 1);
+    if p.length < MOST_KEPT {
+        body[p.length] = b;
+        return at(p.place, p.length + 1);
     }
-    at(place, length)
+    at(p.place, p.length)
 }
 
 // In the address place of a plain frame.
@@ -464,26 +398,21 @@ fn in_oem_sequence(w: Frame, s: u8, length: usize, b: u8) -> Head
 }
 
 // Whom a frame with this sequence byte is still for.
+#[tactic(auto, unfolding(crate::specs::Receive::heard))]
 fn hear(w: Frame, q: u8) -> Frame
     ensures { result ≡ heard w q }
 {
-    if q < FIRST_SEQUENCE {
-        return Frame::Nothing;
+    match q {
+        FIRST_SEQUENCE..=LAST_SEQUENCE => w,
+        _ => Frame::Nothing,
     }
-    if LAST_SEQUENCE < q {
-        return Frame::Nothing;
-    }
-    w
 }
 
 // After the sequence byte.
 fn begin_oem(w: Frame, q: u8, s: u8, length: usize) -> Head
     ensures { (p : Place) (body : List ℕ) → stepped_at result body ≡ quiet (begun_oem w q s (receiver_at p length body)) }
 {
-    if ends(w) {
-        return at(Place::OemBody(w, q, s), 0);
-    }
-    at(Place::OemBody(w, q, s), length)
+    at(Place::OemBody(w, q, s), if ends(w) { 0 } else { length })
 }
 
 // In an OEM body.
@@ -496,10 +425,11 @@ fn in_oem_body(w: Frame, q: u8, s: u8, length: usize, body: &mut [u8; MOST_KEPT]
     if b == ETX {
         return at(Place::OemSum(w, q, sum), length);
     }
+    let place = Place::OemBody(w, q, sum);
     if ends(w) {
-        return store(Place::OemBody(w, q, sum), length, body, b);
+        return store(Progress { place, length }, body, b);
     }
-    at(Place::OemBody(w, q, sum), length)
+    at(place, length)
 }
 
 // In the checksum place.
@@ -514,25 +444,17 @@ fn in_oem_sum(w: Frame, q: u8, s: u8, length: usize, b: u8) -> Head
 }
 
 // Whom an address byte calls: this unit alone, a group of it, or neither.
+#[tactic(auto, using(crate::proofs::Addresses::called_is), unfolding(crate::specs::Addresses::called_of))]
 fn called(unit: u8, b: u8) -> Frame
     ensures { result ≡ called_of unit b }
 {
-    if unit < 1 {
-        return Frame::Nothing;
-    }
-    if UNITS < unit {
+    if unit < 1 || UNITS < unit {
         return Frame::Nothing;
     }
     if b == ZERO + unit {
         return Frame::Alone;
     }
-    if b == PAIRS + 2 * ((unit - 1) / 2) {
-        return Frame::Group;
-    }
-    if b == FOURS + 4 * ((unit - 1) / 4) {
-        return Frame::Group;
-    }
-    if b == ALL {
+    if b == PAIRS + 2 * ((unit - 1) / 2) || b == FOURS + 4 * ((unit - 1) / 4) || b == ALL {
         return Frame::Group;
     }
     Frame::Nothing

@@ -4,28 +4,26 @@ use mathlib.Core.Path.{◌≡◌, refl, sym, ap, ◌∙◌}
 use mathlib.Core.List.{List, [], ◌∷◌, ◌++◌, append_assoc, append-nil}
 use mathlib.Core.Bool.{Bool, true, false, cond}
 use native.Mathlib.Omega.{arith}
-use native.Mathlib.Decide.{dec_lt}
 use native.Mathlib.Nat.{add-zero}
 use native.Mathlib.Numerals.{add-one}
 use lib.ListN.{length, get_or, take, drop, length-append, take-append-drop}
-use lib.Seq.{take-suc, take-take}
+use lib.Seq.{take-suc}
 use borrow.Author.Tests.{le-leb, lt-leb, leb-true, leb-false}
-use Rattle.parts.specs.Parts.{put, fits_at, most_bytes}
+use Rattle.parts.specs.Parts.{put, fits_at}
 use Rattle.parts.proofs.Laws.{put_in_room, put-more, length-put}
-use Rattle.digits.specs.declared.Written.{Written}
-use Rattle.digits.specs.declared.Written.TheVariants.{Past, NoRoom}
+use Rattle.std.specs.Prelude.{Option, Some, None}
 use Rattle.digits.specs.Decimal.{WrittenIs}
 use Rattle.commands.specs.declared.Command.{Command}
 use Rattle.commands.specs.Writing.{spelled}
-use Rattle.lines.specs.Lists.{HostList, commands_text, run_text, written_of}
-use Rattle.host.specs.Adding.{AddedIs, MadeIs}
+use Rattle.lines.specs.Lists.{commands_text, run_text}
+use Rattle.host.specs.Adding.{AddedIs}
 
 -- what is written is added
-pub written-added : {line : List ℕ} {at : ℕ} {text : List ℕ} {r : Written} {after : List ℕ} → WrittenIs line at text r after → AddedIs line at text r after
+pub written-added : {line : List ℕ} {at : ℕ} {text : List ℕ} {r : Option ℕ} {after : List ℕ} → WrittenIs line at text r after → AddedIs line at text r after
 written-added {line} {at} {text} w = record { answers = w.answers; leaves = λ h. w.leaves ∙ put_in_room line at text h }
 
 -- nothing is added
-pub nothing-added : (line : List ℕ) (at : ℕ) → at ≤ length line → AddedIs line at [] (Past at) line
+pub nothing-added : (line : List ℕ) (at : ℕ) → at ≤ length line → AddedIs line at [] (Some at) line
 unfolding put
 nothing-added line at h = let same : at + 0 ≡ at = add-zero at in record {
   answers = rw (same, le-leb at (length line) h);
@@ -38,32 +36,32 @@ pub record Fits (line : List ℕ) (at : ℕ) (text : List ℕ) (n : ℕ) (after 
   pub inside : at + length text ≤ length line
   pub bytes : after ≡ put line at text
 
-pub fits : {line : List ℕ} {at : ℕ} {text : List ℕ} {n : ℕ} {after : List ℕ} → AddedIs line at text (Past n) after → Fits line at text n after
+pub fits : {line : List ℕ} {at : ℕ} {text : List ℕ} {n : ℕ} {after : List ℕ} → AddedIs line at text (Some n) after → Fits line at text n after
 fits {line} {at} {text} {n} {after} a = go (fits_at line at (length text)) refl a.answers
   where
-    go : (b : Bool) → fits_at line at (length text) ≡ b → Past n ≡ cond b (Past (at + length text)) NoRoom → Fits line at text n after
+    go : (b : Bool) → fits_at line at (length text) ≡ b → Some n ≡ cond b (Some (at + length text)) None → Fits line at text n after
     go true e k =
         let h : at + length text ≤ length line = leb-true _ _ e in
         record { past = cc; inside = h; bytes = a.leaves h }
     go false e k = let z : ◌≡◌ {A = ℕ} 0 1 = cc in absurd (omega arith)
 
-pub added-length : {line : List ℕ} {at : ℕ} {text : List ℕ} {n : ℕ} {after : List ℕ} → AddedIs line at text (Past n) after → length after ≡ length line
+pub added-length : {line : List ℕ} {at : ℕ} {text : List ℕ} {n : ℕ} {after : List ℕ} → AddedIs line at text (Some n) after → length after ≡ length line
 added-length {line} {at} {text} a = let f = fits a in ap length f.bytes ∙ length-put line at text f.inside
 
-pub added-inside : {line : List ℕ} {at : ℕ} {text : List ℕ} {n : ℕ} {after : List ℕ} → AddedIs line at text (Past n) after → n ≤ length after
+pub added-inside : {line : List ℕ} {at : ℕ} {text : List ℕ} {n : ℕ} {after : List ℕ} → AddedIs line at text (Some n) after → n ≤ length after
 added-inside a = let f = fits a in omega (arith, f.past, f.inside, added-length a)
 
 -- it does not fit
-pub too_long : {line : List ℕ} {at : ℕ} {text after : List ℕ} → AddedIs line at text NoRoom after → length line < at + length text
+pub too_long : {line : List ℕ} {at : ℕ} {text after : List ℕ} → AddedIs line at text None after → length line < at + length text
 too_long {line} {at} {text} a = go (fits_at line at (length text)) refl a.answers
   where
-    go : (b : Bool) → fits_at line at (length text) ≡ b → NoRoom ≡ cond b (Past (at + length text)) NoRoom → length line < at + length text
+    go : (b : Bool) → fits_at line at (length text) ≡ b → None ≡ cond b (Some (at + length text)) None → length line < at + length text
     go true e k = let z : ◌≡◌ {A = ℕ} 0 1 = cc in absurd (omega arith)
     go false e k = leb-false _ _ e
 
 -- a text, and more behind it
-pub added_more : {line : List ℕ} {at : ℕ} {s mid t : List ℕ} {n : ℕ} {r : Written} {after : List ℕ}
-    → AddedIs line at s (Past n) mid → AddedIs mid n t r after → AddedIs line at (s ++ t) r after
+pub added_more : {line : List ℕ} {at : ℕ} {s mid t : List ℕ} {n : ℕ} {r : Option ℕ} {after : List ℕ}
+    → AddedIs line at s (Some n) mid → AddedIs mid n t r after → AddedIs line at (s ++ t) r after
 added_more {line} {at} {s} {mid} {t} {n} {r} {after} a b =
     let f = fits a in
     let long : length mid ≡ length line = added-length a in
@@ -77,7 +75,7 @@ added_more {line} {at} {s} {mid} {t} {n} {r} {after} a b =
     }
 
 -- where a text does not fit, nothing behind it does
-pub added_none : {line : List ℕ} {at : ℕ} {s mid : List ℕ} (t after : List ℕ) → AddedIs line at s NoRoom mid → AddedIs line at (s ++ t) NoRoom after
+pub added_none : {line : List ℕ} {at : ℕ} {s mid : List ℕ} (t after : List ℕ) → AddedIs line at s None mid → AddedIs line at (s ++ t) None after
 added_none {line} {at} {s} t after a =
     let h = too_long a in
     let g : length line < at + length (s ++ t) = omega (arith, length-append s t) in
@@ -95,42 +93,22 @@ unfolding commands_text
 commands-one cs i d h =
     rw (add-one i, take-suc cs i d h) (commands-append (take i cs) (get_or cs i d ∷ []) ∙ ap (λ (t : List ℕ). commands_text (take i cs) ++ t) (append-nil (spelled (get_or cs i d))))
 
-commands-split : (cs : List Command) (k count : ℕ) → k ≤ count → commands_text (take count cs) ≡ commands_text (take k cs) ++ commands_text (drop k (take count cs))
-commands-split cs k count h =
-    ap commands_text (sym (take-append-drop k (take count cs)) ∙ ap (λ (l : List Command). l ++ drop k (take count cs)) (take-take k count cs h))
-    ∙ commands-append (take k cs) (drop k (take count cs))
+commands-split : (cs : List Command) (k : ℕ) → commands_text cs ≡ commands_text (take k cs) ++ commands_text (drop k cs)
+commands-split cs k = ap commands_text (sym (take-append-drop k cs)) ∙ commands-append (take k cs) (drop k cs)
 
 -- one command more was added, or it does not fit, and then no more do
 module _ {line : List ℕ} {start : ℕ} (cs : List Command) (i : ℕ) (d : Command) {at : ℕ} {mid : List ℕ} (inside : i < length cs)
-    (a : AddedIs line start (commands_text (take i cs)) (Past at) mid) where
-  pub one-added : {r : Written} {after : List ℕ} → WrittenIs mid at (spelled (get_or cs i d)) r after → AddedIs line start (commands_text (take (i + 1) cs)) r after
+    (a : AddedIs line start (commands_text (take i cs)) (Some at) mid) where
+  pub one-added : {r : Option ℕ} {after : List ℕ} → WrittenIs mid at (spelled (get_or cs i d)) r after → AddedIs line start (commands_text (take (i + 1) cs)) r after
   one-added w = rw (commands-one cs i d inside) (added_more a (written-added w))
 
-  pub none-added : (count : ℕ) {after : List ℕ} → i < count → WrittenIs mid at (spelled (get_or cs i d)) NoRoom after → AddedIs line start (commands_text (take count cs)) NoRoom after
-  none-added count {after} h w = rw (commands-split cs (i + 1) count (omega arith)) (added_none (commands_text (drop (i + 1) (take count cs))) after (one-added w))
+  pub none-added : {after : List ℕ} → WrittenIs mid at (spelled (get_or cs i d)) None after → AddedIs line start (commands_text cs) None after
+  none-added {after} w = rw (commands-split cs (i + 1)) (added_none (commands_text (drop (i + 1) cs)) after (one-added w))
 
 -- ---- R, or nothing
-pub run-added : {line : List ℕ} {at : ℕ} {run : Bool} {r : Written} {after : List ℕ} → run ≡ true → WrittenIs line at (run_text true) r after
+pub run-added : {line : List ℕ} {at : ℕ} {run : Bool} {r : Option ℕ} {after : List ℕ} → run ≡ true → WrittenIs line at (run_text true) r after
     → AddedIs line at (run_text run) r after
 run-added e w = rw e (written-added w)
 
-pub no_run-added : (line : List ℕ) (at : ℕ) {run : Bool} → run ≡ false → at ≤ length line → AddedIs line at (run_text run) (Past at) line
+pub no_run-added : (line : List ℕ) (at : ℕ) {run : Bool} → run ≡ false → at ≤ length line → AddedIs line at (run_text run) (Some at) line
 no_run-added line at e h = rw e (nothing-added line at h)
-
--- ---- the whole line
-pub made : {line : List ℕ} {l : HostList} {count : ℕ} {r : Written} {after : List ℕ} → count ≤ most_bytes → AddedIs line 0 (written_of l) r after → MadeIs line l count r after
-made h a = record { few = λ g. a; many = λ g. absurd (omega arith) }
-
-pub made_none : {line : List ℕ} {l : HostList} {count : ℕ} {after : List ℕ} → most_bytes < count → MadeIs line l count NoRoom after
-made_none h = record { few = λ g. absurd (omega arith); many = λ g. refl }
-
--- it was made: of at most 256 commands
-pub made_few : {line : List ℕ} {l : HostList} {count n : ℕ} {after : List ℕ} → MadeIs line l count (Past n) after → count ≤ most_bytes
-made_few {count} {n} m = go (dec_lt most_bytes count)
-  where
-    go : Dec (most_bytes < count) → count ≤ most_bytes
-    go (yes h) = let e : Past n ≡ NoRoom = m.many h in let z : ◌≡◌ {A = ℕ} 0 1 = cc in absurd (omega arith)
-    go (no h) = omega arith
-
-pub made_inside : {line : List ℕ} {l : HostList} {count n : ℕ} {after : List ℕ} → MadeIs line l count (Past n) after → n ≤ length after
-made_inside m = added-inside (m.few (made_few m))

@@ -6,11 +6,11 @@ use mathlib.Core.Bool.{Bool, true, false, cond, ◌||◌}
 use native.Mathlib.Omega.{arith}
 use native.Mathlib.Nat.{zero-add}
 use native.Mathlib.Decide.{dec_lt}
-use lib.ListN.{length, get_or, take, length-append, get_or-append}
+use lib.ListN.{length, get_or, take, get_or-append}
 use lib.Dec.{ltb, eqb}
 use borrow.Author.Tests.{lt-ltb, le-ltb, leb-true, leb-false, eqb-true, eqb-false, ne_eqb}
 use Rattle.parts.specs.Parts.{fits_at, put, same, most_bytes}
-use Rattle.parts.proofs.Laws.{cases, take_put, drop-put, length-put, put_front}
+use Rattle.parts.proofs.Laws.{take_put, drop-put, length-put, put_front}
 use Rattle.parts.specs.Letters.{bytes}
 use Rattle.digits.specs.Decimal.{digits_in, digits_of, ascii, decimal}
 use Rattle.digits.proofs.Writing.{decimal-last, decimal-more, length_some}
@@ -18,77 +18,79 @@ use Rattle.commands.specs.declared.Command.{Command}
 use Rattle.commands.specs.declared.Fault.{Fault}
 use Rattle.commands.specs.Table.{one_of, table, find, command_of}
 use Rattle.commands.specs.Writing.{two_digits_lem, spelled}
-use Rattle.commands.proofs.WritingLaws.{letter-written, spelling-some}
-use Rattle.lines.specs.declared.Slot.TheVariants.{NoSlot, Into}
+use Rattle.std.specs.Prelude.{Some, None, Result, Ok, Err}
 use Rattle.lines.specs.Texts.{structured}
 use Rattle.lines.specs.Bodies.{body_of, line_code_lem}
-use Rattle.lines.specs.Lists.{HostList, slot_spelled, commands_text, run_text, written_of, all_in_range, list_fault, list_code_lem, list, list_of}
+use Rattle.lines.specs.Lists.{HostList, commands_text, run_text, written_of, all_in_range, list_fault, list_code_lem, list, list_of}
 use Rattle.lines.proofs.ListLaws.{list_law, list_back}
 use Rattle.lines.proofs.CodeLaws.{codes}
 use Rattle.lines.proofs.FaultLaws.{over-long}
-use Rattle.host.specs.declared.LineWritten.{LineWritten}
-use Rattle.host.specs.declared.LineWritten.TheVariants.{Bytes, Refused, NoRoom}
+use Rattle.host.specs.declared.NotWritten.{NotWritten}
+use Rattle.host.specs.declared.NotWritten.TheVariants.{Refused, NoRoom}
 use Rattle.host.specs.Host.{host_list, code_of, place_of, fault_of, fitted, answer_of, code_in, line_name, left_by_lem, LineIs}
-use Rattle.host.specs.Claims.{empty_list, k8_list, slot_list, host_listed, numbered, two_digited, Written, LineWrittenIs, LineRefusedIs, LineShortIs}
-use Rattle.host.proofs.LineLaws.{code-few, code-long}
+use Rattle.host.specs.Claims.{empty_list, k8_list, slot_list, numbered, two_digited, Written, LineWrittenIs, LineRefusedIs, LineShortIs}
+use Rattle.host.proofs.LineLaws.{code-long, many-long, code_is, fault_is}
 
 -- ---- the three ways
 
-module _ {l : HostList} {count : ℕ} {buffer after : List ℕ} {answer : LineWritten} (p : LineIs l count buffer answer after) where
-  pub answered : (P : LineWritten → List ℕ → Type 0)
-      → (code_of l count ≡ 0 → length (written_of l) ≤ length buffer → P (Bytes (length (written_of l))) (put buffer 0 (written_of l)))
-      → (code_of l count ≡ 0 → length buffer < length (written_of l) → P NoRoom buffer)
-      → ((code_of l count ≡ 0 → ⊥) → P (Refused (fault_of l count)) buffer)
+module _ {l : HostList} {buffer after : List ℕ} {answer : Result ℕ NotWritten} (p : LineIs l buffer answer after) where
+  pub answered : (P : Result ℕ NotWritten → List ℕ → Type 0)
+      → (code_of l ≡ 0 → length (written_of l) ≤ length buffer → P (Ok (length (written_of l))) (put buffer 0 (written_of l)))
+      → (code_of l ≡ 0 → length buffer < length (written_of l) → P (Err NoRoom) buffer)
+      → ((code_of l ≡ 0 → ⊥) → P (Err (Refused (fault_of l))) buffer)
       → P answer after
   unfolding answer_of
-  answered P w s r = rw (p.answers, p.leaves) (go (eqb (code_of l count) 0) refl)
+  answered P w s r = rw (p.answers, p.leaves) (go (eqb (code_of l) 0) refl)
     where
-      fit : (b : Bool) → fits_at buffer 0 (length (written_of l)) ≡ b → code_of l count ≡ 0
-          → P (cond b (Bytes (length (written_of l))) NoRoom) (left_by_lem (cond b (Bytes (length (written_of l))) NoRoom) l buffer)
+      fit : (b : Bool) → fits_at buffer 0 (length (written_of l)) ≡ b → code_of l ≡ 0
+          → P (cond b (Ok (length (written_of l))) (Err NoRoom)) (left_by_lem (cond b (Ok (length (written_of l))) (Err NoRoom)) l buffer)
       fit true e z = let h = leb-true (0 + length (written_of l)) (length buffer) e in w z (omega arith)
       fit false e z = let h = leb-false (0 + length (written_of l)) (length buffer) e in s z (omega arith)
 
-      go : (b : Bool) → eqb (code_of l count) 0 ≡ b
-          → P (cond b (fitted buffer (length (written_of l))) (Refused (fault_of l count)))
-          (left_by_lem (cond b (fitted buffer (length (written_of l))) (Refused (fault_of l count))) l buffer)
-      go true e = fit (fits_at buffer 0 (length (written_of l))) refl (eqb-true (code_of l count) 0 e)
-      go false e = r (eqb-false (code_of l count) 0 e)
+      go : (b : Bool) → eqb (code_of l) 0 ≡ b
+          → P (cond b (fitted buffer (length (written_of l))) (Err (Refused (fault_of l))))
+          (left_by_lem (cond b (fitted buffer (length (written_of l))) (Err (Refused (fault_of l)))) l buffer)
+      go true e = fit (fits_at buffer 0 (length (written_of l))) refl (eqb-true (code_of l) 0 e)
+      go false e = r (eqb-false (code_of l) 0 e)
 
-  pub refused_where : (code_of l count ≡ 0 → ⊥) → (line_name answer ≡ "the line check's code") × (code_in answer ≡ code_of l count)
-  refused_where n = answered (λ a x. (line_name a ≡ "the line check's code") × (code_in a ≡ code_of l count)) (λ z h. absurd (n z)) (λ z h. absurd (n z)) (λ z. (refl, refl))
+  pub refused_where : (code_of l ≡ 0 → ⊥) → (line_name answer ≡ "the line check's code") × (code_in answer ≡ code_of l)
+  refused_where n = answered (λ a x. (line_name a ≡ "the line check's code") × (code_in a ≡ code_of l)) (λ z h. absurd (n z)) (λ z h. absurd (n z)) (λ z. (refl, refl))
 
-  pub written_where : code_of l count ≡ 0 → length (written_of l) ≤ length buffer → (line_name answer ≡ "written") × (answer ≡ Bytes (length (written_of l)))
-  written_where z h = answered (λ a x. (line_name a ≡ "written") × (a ≡ Bytes (length (written_of l)))) (λ y g. (refl, refl)) (λ y g. absurd (omega arith)) (λ y. absurd (y z))
+  pub written_where : code_of l ≡ 0 → length (written_of l) ≤ length buffer → (line_name answer ≡ "written") × (answer ≡ Ok (length (written_of l)))
+  written_where z h = answered (λ a x. (line_name a ≡ "written") × (a ≡ Ok (length (written_of l)))) (λ y g. (refl, refl)) (λ y g. absurd (omega arith)) (λ y. absurd (y z))
 
-  pub short_where : code_of l count ≡ 0 → length buffer < length (written_of l) → line_name answer ≡ "buffer too short"
+  pub short_where : code_of l ≡ 0 → length buffer < length (written_of l) → line_name answer ≡ "buffer too short"
   short_where z h = answered (λ a x. line_name a ≡ "buffer too short") (λ y g. absurd (omega arith)) (λ y g. refl) (λ y. absurd (y z))
+
+-- ---- the code
+
+pub line_check : (l : HostList) → code_of l ≡ line_code_lem (written_of l)
+line_check l = code_is l ∙ sym (list_law l)
+
+pub too_many : (l : HostList) → most_bytes < length l.listed → list_code_lem l ≡ 2
+too_many l h = code-long l (many-long l h)
+
+pub count-over : (l : HostList) → most_bytes < length l.listed → code_of l ≡ 2
+count-over l h = code_is l ∙ too_many l h
+
+pub no_place : (l : HostList) → most_bytes < length (written_of l) → place_of l ≡ 0
+no_place l h = ap (λ (f : Fault). f.place) (fault_is l ∙ over-long (written_of l) h)
 
 -- ---- what each answer says
 
--- no code: not too many commands, and none of the list's
-code_parts : (o : Bool) (c : ℕ) → ◌≡◌ {A = ℕ} (cond o 2 c) 0 → c ≡ 0
-code_parts true c e = absurd (omega arith)
-code_parts false c e = e
-
-list-taken : (l : HostList) (count : ℕ) → code_of l count ≡ 0 → list_code_lem l ≡ 0
-unfolding code_of
-list-taken l count e = code_parts (ltb most_bytes count) (list_code_lem l) e
+list-taken : (l : HostList) → code_of l ≡ 0 → list_code_lem l ≡ 0
+list-taken l e = sym (code_is l) ∙ e
 
 -- a code is 2 or 3, where it is not 0
 two_or_three : (c : ℕ) → one_of (0 ∷ 2 ∷ 3 ∷ []) c ≡ true → (c ≡ 0 → ⊥) → one_of (2 ∷ 3 ∷ []) c ≡ true
 unfolding one_of
 two_or_three c h z = rw (ne_eqb c 0 z) at h
 
-fault-code : (l : HostList) (count : ℕ) → (code_of l count ≡ 0 → ⊥) → one_of (2 ∷ 3 ∷ []) (code_of l count) ≡ true
-unfolding code_of one_of
-fault-code l count z = go (ltb most_bytes count) z
-  where
-    go : (o : Bool) → (◌≡◌ {A = ℕ} (cond o 2 (list_code_lem l)) 0 → ⊥) → one_of (2 ∷ 3 ∷ []) (cond o 2 (list_code_lem l)) ≡ true
-    go true y = refl
-    go false y = two_or_three (list_code_lem l) (rw (← list_law l) (codes (written_of l))) y
+fault-code : (l : HostList) → (code_of l ≡ 0 → ⊥) → one_of (2 ∷ 3 ∷ []) (code_of l) ≡ true
+fault-code l z = two_or_three (code_of l) (rw (line_check l) (codes (written_of l))) z
 
-module _ (l : HostList) (count : ℕ) (buffer : List ℕ) where
-  put_reads : code_of l count ≡ 0 → length (written_of l) ≤ length buffer → LineWrittenIs l count (length (written_of l)) buffer (put buffer 0 (written_of l))
+module _ (l : HostList) (buffer : List ℕ) where
+  put_reads : code_of l ≡ 0 → length (written_of l) ≤ length buffer → LineWrittenIs l (length (written_of l)) buffer (put buffer 0 (written_of l))
   put_reads z h =
       let t : List ℕ = written_of l in
       let front : take (length t) (put buffer 0 t) ≡ t = ap (λ (k : ℕ). take k (put buffer 0 t)) (sym (zero-add (length t))) ∙ take_put buffer 0 t (omega arith) in
@@ -96,57 +98,31 @@ module _ (l : HostList) (count : ℕ) (buffer : List ℕ) where
         no_code = z;
         fits = h;
         bytes = front;
-        reads_back = ap list_of front ∙ list_back l (list-taken l count z);
+        reads_back = ap list_of front ∙ list_back l (list-taken l z);
         past-line = rw zero-add at (drop-put buffer 0 t (omega arith));
         as_long = length-put buffer 0 t (omega arith);
       }
 
-  pub written : {n : ℕ} {after : List ℕ} → LineIs l count buffer (Bytes n) after → LineWrittenIs l count n buffer after
-  written {n} {after} p = answered p (λ a x. a ≡ Bytes n → LineWrittenIs l count n buffer x)
+  pub written : {n : ℕ} {after : List ℕ} → LineIs l buffer (Ok n) after → LineWrittenIs l n buffer after
+  written {n} {after} p = answered p (λ a x. a ≡ Ok n → LineWrittenIs l n buffer x)
       (λ z h e. let same : length (written_of l) ≡ n = cc in rw (← same) (put_reads z h))
       (λ z h e. let y : ◌≡◌ {A = ℕ} 0 1 = cc in absurd (omega arith))
       (λ z e. let y : ◌≡◌ {A = ℕ} 0 1 = cc in absurd (omega arith))
       refl
 
-  pub short : {after : List ℕ} → LineIs l count buffer NoRoom after → LineShortIs l count buffer after
-  short p = answered p (λ a x. a ≡ NoRoom → LineShortIs l count buffer x)
+  pub short : {after : List ℕ} → LineIs l buffer (Err NoRoom) after → LineShortIs l buffer after
+  short p = answered p (λ a x. a ≡ (Err NoRoom) → LineShortIs l buffer x)
       (λ z h e. let y : ◌≡◌ {A = ℕ} 0 1 = cc in absurd (omega arith))
       (λ z h e. record { no_code = z; too_short = h; unchanged = refl })
       (λ z e. let y : ◌≡◌ {A = ℕ} 0 1 = cc in absurd (omega arith))
       refl
 
-  pub refused : {f : Fault} {after : List ℕ} → LineIs l count buffer (Refused f) after → LineRefusedIs l count f buffer after
-  refused {f} p = answered p (λ a x. a ≡ Refused f → LineRefusedIs l count f buffer x)
+  pub refused : {f : Fault} {after : List ℕ} → LineIs l buffer (Err (Refused f)) after → LineRefusedIs l f buffer after
+  refused {f} p = answered p (λ a x. a ≡ Err (Refused f) → LineRefusedIs l f buffer x)
       (λ z h e. let y : ◌≡◌ {A = ℕ} 0 1 = cc in absurd (omega arith))
       (λ z h e. let y : ◌≡◌ {A = ℕ} 0 1 = cc in absurd (omega arith))
-      (λ z e. let same : fault_of l count ≡ f = cc in rw (← same) (record { its_code = refl; its_place = refl; a_fault = fault-code l count z; unchanged = refl }))
+      (λ z e. let same : fault_of l ≡ f = cc in rw (← same) (record { its_code = refl; its_place = refl; a_fault = fault-code l z; unchanged = refl }))
       refl
-
--- ---- the code
-
-pub line_check : (l : HostList) (count : ℕ) → count ≤ most_bytes → code_of l count ≡ line_code_lem (written_of l)
-line_check l count h = code-few l count h ∙ sym (list_law l)
-
-pub count-over : (l : HostList) (count : ℕ) → most_bytes < count → code_of l count ≡ 2
-unfolding code_of
-count-over l count h = rw (lt-ltb most_bytes count h)
-
-pub no_place : (l : HostList) (count : ℕ) → most_bytes < length (written_of l) → place_of l count ≡ 0
-unfolding place_of
-no_place l count h = rw (over-long (written_of l) h) (cases (λ (k : ℕ). k ≡ 0) (ltb most_bytes count) (λ e. refl) (λ e. refl))
-
--- each command has a byte at least
-commands-bytes : (cs : List Command) → length cs ≤ length (commands_text cs)
-unfolding commands_text
-commands-bytes [] = omega arith
-commands-bytes (c ∷ cs) =
-    omega (arith, commands-bytes cs, spelling-some (spelled c) (letter-written c), length-append (spelled c) (commands_text cs))
-
-pub too_many : (l : HostList) → most_bytes < length l.listed → list_code_lem l ≡ 2
-unfolding written_of
-too_many l h =
-    let t : List ℕ = commands_text l.listed ++ run_text l.run in
-    code-long l (omega (arith, commands-bytes l.listed, length-append (slot_spelled l.slot) t, length-append (commands_text l.listed) (run_text l.run)))
 
 -- ---- the empty list
 
@@ -154,7 +130,7 @@ pub empty-written : written_of empty_list ≡ []
 unfolding written_of commands_text
 empty-written = refl
 
-empty_code : code_of empty_list 0 ≡ 0
+empty_code : code_of empty_list ≡ 0
 unfolding code_of list_code_lem list_fault written_of commands_text all_in_range structured
 empty_code = refl
 
@@ -162,25 +138,24 @@ pub empty-reads : list_of [] ≡ list empty_list
 unfolding list_of body_of one_of same
 empty-reads = refl
 
-pub empty-answer : (commands : List Command) {buffer after : List ℕ} {answer : LineWritten}
-    → LineIs (host_list NoSlot commands 0 false) 0 buffer answer after → (answer ≡ Bytes 0) × (after ≡ buffer)
+pub empty-answer : {buffer after : List ℕ} {answer : Result ℕ NotWritten} → LineIs empty_list buffer answer after → (answer ≡ Ok 0) × (after ≡ buffer)
 unfolding written_of commands_text
-empty-answer commands {buffer} p = answered p (λ a x. (a ≡ Bytes 0) × (x ≡ buffer))
+empty-answer {buffer} p = answered p (λ a x. (a ≡ Ok 0) × (x ≡ buffer))
     (λ z h. (refl, put_front buffer []))
     (λ z h. absurd (omega arith))
     (λ z. absurd (z empty_code))
 
 -- ---- how a list is written
 
-slot-first : (n : ℕ) (cs : List Command) (run : Bool) → written_of (host_listed (Into n) cs run) ≡ 115 ∷ (decimal n ++ written_of (host_listed NoSlot cs run))
+slot-first : (n : ℕ) (cs : List Command) (run : Bool) → written_of (host_list (Some n) cs run) ≡ 115 ∷ (decimal n ++ written_of (host_list None cs run))
 unfolding written_of
 slot-first n cs run = refl
 
-command-first : (c : Command) (cs : List Command) (run : Bool) → written_of (host_listed NoSlot (c ∷ cs) run) ≡ spelled c ++ written_of (host_listed NoSlot cs run)
+command-first : (c : Command) (cs : List Command) (run : Bool) → written_of (host_list None (c ∷ cs) run) ≡ spelled c ++ written_of (host_list None cs run)
 unfolding written_of commands_text
 command-first c cs run = append_assoc (spelled c) (commands_text cs) (run_text run)
 
-run-last : (run : Bool) → written_of (host_listed NoSlot [] run) ≡ cond run (bytes "R") []
+run-last : (run : Bool) → written_of (host_list None [] run) ≡ cond run (bytes "R") []
 unfolding written_of commands_text
 run-last true = refl
 run-last false = refl

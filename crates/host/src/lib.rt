@@ -1,44 +1,43 @@
 // The host's side: a line written from a list of commands.
 #![tactic(auto)]
 
-ghost use Rattle.std.specs.Prelude.{◌≤◌, take, length};
-ghost use Rattle.lines.specs.Lists.{slot_spelled, commands_text, run_text};
+ghost use Rattle.std.specs.Prelude.{◌≤◌, length};
+ghost use Rattle.lines.specs.Lists.{slot_spelled, commands_text, run_text, written_of};
 ghost use Rattle.host.specs.Host.{host_list, LineIs};
-ghost use Rattle.host.specs.Adding.{AddedIs, MadeIs, TakenIs, CheckedIs};
+ghost use Rattle.host.specs.Adding.{AddedIs, TakenIs, CheckedIs};
 ghost use Rattle.host.specs.Claims.{HostClaims};
 
 use commands::{Command, Fault};
-use digits::Written;
-use lines::Slot;
 
-#[derive(Clone, Copy)]
-pub enum LineWritten {
-    // So many bytes at the front of the buffer.
-    Bytes(usize),
+// Why a list is not written.
+#[derive(Clone, Copy, PartialEq, Eq)]
+pub enum NotWritten {
     // The code that the line check gives to the line, and the place of the fault in it.
     Refused(Fault),
     // The buffer is too short.
     NoRoom,
 }
 
-// "The body has 0 to 256 bytes", and so at most as many commands.
+// "The body has 0 to 256 bytes."
 const LINE_BYTES: usize = 256;
 
-// Writes a slot or none, so many commands, and R or none, as a body alone at the front of a buffer.
+// Writes a slot or none, commands, and R or none, as a body alone at the front of a buffer; how many bytes it has.
 pub fn write_line(
-    slot: Slot,
-    commands: [Command; LINE_BYTES],
-    count: usize,
+    slot: Option<u32>,
+    commands: &[Command],
     run: bool,
     buffer: &mut [u8],
-) -> LineWritten
-    ensures { LineIs (host_list slot commands count run) count buffer.old result buffer.new }
+) -> Result<usize, NotWritten>
+    ensures { LineIs (host_list slot commands.now run) buffer.old result buffer.new }
 {
     let mut line = [0u8; LINE_BYTES];
-    let Written::Past(n) = make_line(slot, commands, count, run, &mut line) else {
-        return LineWritten::Refused(Fault { code: 2, place: 0 });
+    let Some(n) = make_line(slot, commands, run, &mut line) else {
+        return Err(NotWritten::Refused(Fault {
+            code: commands::MALFORMED,
+            place: 0,
+        }));
     };
-    write_checked(&line[0..n], buffer)
+    write_checked(&line[..n], buffer)
 }
 
 // What is claimed of the host's lines.
@@ -47,92 +46,67 @@ pub fn host_claims()
 {}
 
 // Writes a line that the line check takes.
-fn write_checked(line: &[u8], buffer: &mut [u8]) -> LineWritten
+fn write_checked(line: &[u8], buffer: &mut [u8]) -> Result<usize, NotWritten>
     ensures { CheckedIs line.now buffer.old result buffer.new }
 {
-    let fault = lines::check_line(line);
-    let code = fault.code;
-    if code != 0 {
-        return LineWritten::Refused(fault);
+    match lines::check_line(line) {
+        Ok(()) => write_taken(line, buffer),
+        Err(fault) => Err(NotWritten::Refused(fault)),
     }
-    write_taken(line, buffer)
 }
 
 // Writes a line where the buffer has room for it.
-fn write_taken(line: &[u8], buffer: &mut [u8]) -> LineWritten
+fn write_taken(line: &[u8], buffer: &mut [u8]) -> Result<usize, NotWritten>
     ensures { TakenIs line.now buffer.old result buffer.new }
 {
-    if parts::put_at(buffer, 0, line) {
-        return LineWritten::Bytes(line.len());
-    }
-    LineWritten::NoRoom
+    digits::write_bytes(buffer, 0, line).ok_or(NotWritten::NoRoom)
 }
 
-// Makes the line from its first byte on, where it does not pass the end: more than 256 commands do.
+// Makes the line from its first byte on, where it does not pass the end: more than 256 commands do, as each has a byte at least.
 fn make_line(
-    slot: Slot,
-    commands: [Command; LINE_BYTES],
-    count: usize,
+    slot: Option<u32>,
+    commands: &[Command],
     run: bool,
-    line: &mut [u8],
-) -> Written
-    ensures { MadeIs line.old (host_list slot commands count run) count result line.new }
+    line: &mut [u8; LINE_BYTES],
+) -> Option<usize>
+    ensures { AddedIs line.old 0 (written_of (host_list slot commands.now run)) result line.new }
 {
-    if LINE_BYTES < count {
-        return Written::NoRoom;
-    }
-    let Written::Past(start) = add_slot(line, slot) else {
-        return Written::NoRoom;
-    };
-    let Written::Past(end) = add_commands(line, start, commands, count) else {
-        return Written::NoRoom;
-    };
+    let start = add_slot(line, slot)?;
+    let end = add_commands(line, start, commands)?;
     add_run(line, end, run)
 }
 
 // Adds s and the slot's number, or nothing.
-fn add_slot(line: &mut [u8], slot: Slot) -> Written
+fn add_slot(line: &mut [u8], slot: Option<u32>) -> Option<usize>
     ensures { AddedIs line.old 0 (slot_spelled slot) result line.new }
 {
-    let Slot::Into(n) = slot else {
-        return Written::Past(0);
+    let Some(n) = slot else {
+        return Some(0);
     };
-    let Written::Past(at) = digits::write_byte(line, 0, b's') else {
-        return Written::NoRoom;
-    };
+    let at = digits::write_byte(line, 0, b's')?;
     digits::write_number(line, at, n)
 }
 
-// Adds so many commands from a place on.
-fn add_commands(
-    line: &mut [u8],
-    start: usize,
-    commands: [Command; LINE_BYTES],
-    count: usize,
-) -> Written
-    requires { (start ≤ length line.old) × (count ≤ length commands) }
-    ensures { AddedIs line.old start (commands_text (take count commands)) result line.new }
+// Adds commands from a place on.
+fn add_commands(line: &mut [u8], start: usize, commands: &[Command]) -> Option<usize>
+    requires { start ≤ length line.old }
+    ensures { AddedIs line.old start (commands_text commands.now) result line.new }
 {
     let mut at = start;
-    let mut i = 0;
-    while i < count {
-        let c = commands[i];
-        let Written::Past(next) = commands::write_command(line, at, c) else {
-            return Written::NoRoom;
-        };
-        at = next;
-        i += 1;
+    for c in commands {
+        at = commands::write_command(line, at, *c)?;
     }
-    Written::Past(at)
+    Some(at)
 }
 
 // Adds R, or nothing.
-fn add_run(line: &mut [u8], at: usize, run: bool) -> Written
+fn add_run(line: &mut [u8], at: usize, run: bool) -> Option<usize>
     requires { at ≤ length line.old }
     ensures { AddedIs line.old at (run_text run) result line.new }
 {
     if run {
-        return digits::write_byte(line, at, b'R');
+        digits::write_byte(line, at, b'R')
+    } else {
+        Some(at)
     }
-    Written::Past(at)
 }

@@ -1,4 +1,7 @@
 -- Laws of the public calls: how each promise is met, and that no second answer meets it. Assumes nothing.
+use Rattle.std.specs.Prelude.{Ok}
+use Rattle.image.specs.Calls.{Checked}
+use Rattle.image.specs.Calls.{Stored}
 use Prim.Native.Nat.{ℕ, ◌≤◌, ◌<◌}
 use mathlib.Core.Path.{◌≡◌, refl, sym, ◌∙◌}
 use mathlib.Core.List.{List}
@@ -13,39 +16,37 @@ use Rattle.digits.specs.Operand.{operand_most, few_digits}
 use Rattle.lines.specs.Texts.{older_good}
 use Rattle.lines.proofs.FewLaws.{good-now}
 use Rattle.image.specs.Image.{image_bytes, right_length, slots, body_bytes, start_in, length_in, slot_start, entry_of, slot_body, all_zeros, good_at, has_slot, slot_by, slot_good, slots_by, with_text, empty_image}
-use Rattle.image.specs.declared.Checked.{Checked}
-use Rattle.image.specs.declared.Stored.{Stored}
 use Rattle.image.specs.Calls.{checked_by, checked_of, older_of, stored_of, store_leaves, after_store, StoredIs, after_clear, ClearedIs}
 use Rattle.image.specs.Claims.{EverySlotGood, entry_text, slot_older, EverySlotOlder}
 use Rattle.image.proofs.SlotLaws.{and_left, slots-each, slots-all}
 
 -- ---- the image checked
 
-means_by : (most : ℕ) (image : List ℕ) → checked_by most image ≡ Checked.Good
+means_by : (most : ℕ) (image : List ℕ) → checked_by most image ≡ Ok tt
     → (length image ≡ image_bytes) × ((k : ℕ) → k < slots → slot_by most image k ≡ true)
 unfolding checked_by
 means_by most image =
     cases
-    (λ (r : Checked). r ≡ Checked.Good → (length image ≡ image_bytes) × ((k : ℕ) → k < slots → slot_by most image k ≡ true))
+    (λ (r : Checked). r ≡ Ok tt → (length image ≡ image_bytes) × ((k : ℕ) → k < slots → slot_by most image k ≡ true))
     (right_length image)
     (λ long. cases
-    (λ (r : Checked). r ≡ Checked.Good → (length image ≡ image_bytes) × ((k : ℕ) → k < slots → slot_by most image k ≡ true))
+    (λ (r : Checked). r ≡ Ok tt → (length image ≡ image_bytes) × ((k : ℕ) → k < slots → slot_by most image k ≡ true))
     (slots_by most image slots)
     (λ all q. (eqb-true (length image) image_bytes long, λ k l. slots-each most image k slots l all))
     (λ some q. let z : ◌≡◌ {A = ℕ} 0 1 = cc in absurd (omega arith)))
     (λ short q. let z : ◌≡◌ {A = ℕ} 0 1 = cc in absurd (omega arith))
 
-when_by : (most : ℕ) (image : List ℕ) → length image ≡ image_bytes → ((k : ℕ) → k < slots → slot_by most image k ≡ true) → checked_by most image ≡ Checked.Good
+when_by : (most : ℕ) (image : List ℕ) → length image ≡ image_bytes → ((k : ℕ) → k < slots → slot_by most image k ≡ true) → checked_by most image ≡ Ok tt
 unfolding checked_by
 when_by most image long each = rw (eq-eqb (length image) image_bytes long, slots-all most image slots each)
 
-pub good-means : (image : List ℕ) → checked_of image ≡ Checked.Good → (length image ≡ image_bytes) × EverySlotGood image
+pub good-means : (image : List ℕ) → checked_of image ≡ Ok tt → (length image ≡ image_bytes) × EverySlotGood image
 good-means image e = means_by operand_most image e
 
-pub good-when : (image : List ℕ) → length image ≡ image_bytes → EverySlotGood image → checked_of image ≡ Checked.Good
+pub good-when : (image : List ℕ) → length image ≡ image_bytes → EverySlotGood image → checked_of image ≡ Ok tt
 good-when image long each = when_by operand_most image long each
 
-pub older-means : (image : List ℕ) → older_of image ≡ Checked.Good → (length image ≡ image_bytes) × EverySlotOlder image
+pub older-means : (image : List ℕ) → older_of image ≡ Ok tt → (length image ≡ image_bytes) × EverySlotOlder image
 older-means image e = means_by most_bytes image e
 
 -- ---- programs stored earlier
@@ -68,7 +69,7 @@ slot-now image k =
     (tested-last (has_slot image k) (eqb (start_in (entry_of image k)) (slot_start k)) (leb (length_in (entry_of image k)) body_bytes) (older_good (entry_text image k))
     (few_digits operand_most (entry_text image k)) (all_zeros (drop (length_in (entry_of image k)) (slot_body image k))))
 
-pub good-before : (image : List ℕ) → checked_of image ≡ Checked.Good → older_of image ≡ Checked.Good
+pub good-before : (image : List ℕ) → checked_of image ≡ Ok tt → older_of image ≡ Ok tt
 good-before image e =
     let k = good-means image e in
     when_by most_bytes image k.0 (λ j l. and_left (slot_older image j) (few_digits operand_most (entry_text image j)) (sym (slot-now image j) ∙ k.1 j l))
@@ -96,7 +97,7 @@ store-cases P image k text same done =
     (λ f. same)
 
 pub done-when : (image : List ℕ) (k : ℕ) (text : List ℕ) → length image ≡ image_bytes → k < slots → length text ≤ body_bytes
-    → stored_of image k text ≡ Stored.Done
+    → stored_of image k text ≡ Ok tt
 unfolding stored_of
 done-when image k text long slot fits =
     rw (eq-eqb (length image) image_bytes long, lt-ltb k slots slot, le-leb (length text) body_bytes fits)
@@ -107,10 +108,10 @@ pub record Fits (image : List ℕ) (k : ℕ) (text : List ℕ) : Type 0 where
   pub slot : k < slots
   pub fits : length text ≤ body_bytes
 
-pub done-means : (image : List ℕ) (k : ℕ) (text : List ℕ) → stored_of image k text ≡ Stored.Done → Fits image k text
+pub done-means : (image : List ℕ) (k : ℕ) (text : List ℕ) → stored_of image k text ≡ Ok tt → Fits image k text
 unfolding stored_of
 done-means image k text =
-    let Q : Stored → Type 0 = λ r. r ≡ Stored.Done → Fits image k text in
+    let Q : Stored → Type 0 = λ r. r ≡ Ok tt → Fits image k text in
     cases
     Q
     (right_length image)
@@ -125,7 +126,7 @@ done-means image k text =
     (λ f q. let z : ◌≡◌ {A = ℕ} 0 1 = cc in absurd (omega arith)))
     (λ f q. let z : ◌≡◌ {A = ℕ} 0 1 = cc in absurd (omega arith))
 
-pub after-done : (image : List ℕ) (k : ℕ) (text : List ℕ) → stored_of image k text ≡ Stored.Done → after_store image k text ≡ with_text image k text
+pub after-done : (image : List ℕ) (k : ℕ) (text : List ℕ) → stored_of image k text ≡ Ok tt → after_store image k text ≡ with_text image k text
 unfolding after_store
 after-done image k text e = rw e
 

@@ -1,4 +1,5 @@
 -- What a clear leaves: every slot holds the empty text. Assumes nothing.
+use Rattle.std.specs.Prelude.{Ok}
 use Prim.Native.Nat.{ℕ, zero, suc, ◌+◌, ◌*◌, ◌-◌, ◌≤◌, ◌<◌}
 use mathlib.Core.Path.{◌≡◌, refl, sym, ap, ◌∙◌}
 use mathlib.Core.List.{List, [], ◌++◌, append_assoc}
@@ -14,7 +15,6 @@ use Rattle.parts.specs.Parts.{part, padded}
 use Rattle.parts.proofs.Laws.{cases, length-padded}
 use Rattle.digits.specs.Operand.{operand_most}
 use Rattle.image.specs.Image.{image_bytes, right_length, slots, entry_bytes, entry_of, body_bytes, slot_start, word, slot_body, slot_text, entry_for, empty_entries, empty_image}
-use Rattle.image.specs.declared.Checked.{Checked}
 use Rattle.image.specs.Calls.{checked_of, after_clear}
 use Rattle.image.specs.Claims.{SlotHolds, ClearClaims}
 use Rattle.image.proofs.SlotLaws.{no_slot}
@@ -71,7 +71,7 @@ body-empty k l = part-padded image_bytes (empty_entries slots) (body_bytes * k) 
 pub holds-empty : (k : ℕ) → k < slots → SlotHolds empty_image k []
 holds-empty k l = holds empty_image k [] length-empty l (omega arith) (entry-empty k l) (body-empty k l)
 
-good-empty : checked_of empty_image ≡ Checked.Good
+good-empty : checked_of empty_image ≡ Ok tt
 good-empty = good-when empty_image length-empty (λ k l. (holds-empty k l).good ∙ empty-good)
 
 text-empty : (k : ℕ) → slot_text empty_image k ≡ []
@@ -93,7 +93,7 @@ module _ (image : List ℕ) where
   unfolding after_clear
   cleared_is long = rw long
 
-  pub clear-good : right_length image ≡ true → checked_of (after_clear image) ≡ Checked.Good
+  pub clear-good : right_length image ≡ true → checked_of (after_clear image) ≡ Ok tt
   clear-good long = rw (cleared_is long) good-empty
 
   pub clear-empty : (k : ℕ) → right_length image ≡ true → slot_text (after_clear image) k ≡ []

@@ -1,4 +1,5 @@
 -- What a store does: to its own slot, to every other, and to a good image. Assumes nothing.
+use Rattle.std.specs.Prelude.{Ok}
 use Prim.Native.Nat.{ℕ, ◌+◌, ◌≤◌, ◌<◌}
 use mathlib.Core.Path.{◌≡◌, refl, sym, ◌∙◌}
 use mathlib.Core.List.{List, []}
@@ -12,8 +13,6 @@ use Rattle.parts.specs.Parts.{part, put, padded}
 use Rattle.parts.proofs.Laws.{length-put, part-put, part-put-below, part-put-above, length-padded}
 use Rattle.lines.specs.Texts.{text_good}
 use Rattle.image.specs.Image.{image_bytes, right_length, slots, entry_bytes, entry_of, body_bytes, slot_start, word, slot_body, slot_by, slot_good, slot_text, entry_for, with_entry, with_body, with_text}
-use Rattle.image.specs.declared.Checked.{Checked}
-use Rattle.image.specs.declared.Stored.{Stored}
 use Rattle.image.specs.Calls.{checked_of, stored_of, after_store}
 use Rattle.image.specs.Claims.{SlotKept, SlotHolds, StoreClaims}
 use Rattle.image.proofs.HeldLaws.{empty-good, good-fits, holds}
@@ -88,7 +87,7 @@ module _ (image : List ℕ) (k : ℕ) (text : List ℕ) where
   store_length =
       store-cases (λ (x : List ℕ). length x ≡ length image) image k text refl (λ long slot fits. length_with image k text long slot fits ∙ sym long)
 
-  pub store-holds : stored_of image k text ≡ Stored.Done → SlotHolds (after_store image k text) k text
+  pub store-holds : stored_of image k text ≡ Ok tt → SlotHolds (after_store image k text) k text
   store-holds e =
       let f = done-means image k text e in
       rw (after-done image k text e) (holds_with image k text f.long f.slot f.fits)
@@ -103,11 +102,11 @@ module _ (image : List ℕ) (k : ℕ) (text : List ℕ) where
       (record { entry = refl; body = refl; good = refl; text = refl })
       (λ long slot fits. kept_with image k text long slot fits j other ne)
 
-  pub store-done : right_length image ≡ true → k < slots → text_good text ≡ true → stored_of image k text ≡ Stored.Done
+  pub store-done : right_length image ≡ true → k < slots → text_good text ≡ true → stored_of image k text ≡ Ok tt
   store-done long slot t = done-when image k text (eqb-true _ _ long) slot (good-fits text t)
 
   -- each slot is the one stored to, or as it was
-  pub store-good : checked_of image ≡ Checked.Good → text_good text ≡ true → checked_of (after_store image k text) ≡ Checked.Good
+  pub store-good : checked_of image ≡ Ok tt → text_good text ≡ true → checked_of (after_store image k text) ≡ Ok tt
   store-good g t = good-when (after_store image k text) (store_length ∙ (good-means image g).0) (λ j l. each j l (ℕ_discrete j k))
     where
       each : (j : ℕ) → j < slots → Dec (j ≡ k) → slot_good (after_store image k text) j ≡ true

@@ -1,4 +1,5 @@
 -- A good image is told by its texts: each entry and each body is that of its text, and there is nothing else. Assumes nothing.
+use Rattle.std.specs.Prelude.{Ok}
 use Prim.Native.Nat.{ℕ, zero, suc, ◌+◌, ◌*◌, ◌-◌, ◌/◌, ◌%◌, ◌<◌}
 use mathlib.Core.Path.{◌≡◌, refl, sym, ap, ◌∙◌}
 use mathlib.Core.List.{List, [], ◌∷◌, ◌++◌}
@@ -12,7 +13,6 @@ use borrow.Author.Tests.{eqb-true}
 use Rattle.parts.specs.Parts.{part, padded}
 use Rattle.parts.proofs.Laws.{get_d_part}
 use Rattle.image.specs.Image.{image_bytes, slots, entry_bytes, entry_of, body_bytes, byte_values, contents_bytes, start_in, length_in, slot_start, word, word_at, slot_body, all_zeros, slot_good, slot_text, entry_for}
-use Rattle.image.specs.declared.Checked.{Checked}
 use Rattle.image.specs.Calls.{checked_of}
 use Rattle.image.specs.Claims.{Bytes, SameTexts}
 use Rattle.image.proofs.SlotLaws.{and_left, and_right, length-entry, length-body, sound}
@@ -92,7 +92,7 @@ all_there a b la lb entries bodies = ext_get_or 0 a b (la ∙ sym lb) (λ i h. g
         let k = (i - contents_bytes) / body_bytes in
         at (slot_start k) body_bytes i ((i - contents_bytes) % body_bytes) (omega arith) (omega arith) (bodies k (omega arith))
 
-pub told_by_texts : (a b : List ℕ) → Bytes a → Bytes b → checked_of a ≡ Checked.Good → checked_of b ≡ Checked.Good → SameTexts a b → a ≡ b
+pub told_by_texts : (a b : List ℕ) → Bytes a → Bytes b → checked_of a ≡ Ok tt → checked_of b ≡ Ok tt → SameTexts a b → a ≡ b
 told_by_texts a b sa sb ga gb same =
     let ea = (good-means a ga).1 in
     let eb = (good-means b gb).1 in

@@ -1,15 +1,22 @@
 -- What the public calls answer and leave. 01, "Image of the programs" and "What comes back". Assumes nothing.
-use Rattle.std.specs.Prelude.{ℕ, ◌≡◌, List, Bool, cond, length, ltb, leb}
+use Rattle.std.specs.Prelude.{ℕ, ◌≡◌, List, Bool, cond, length, ltb, leb, Result, Ok, Err, ⊤}
+use Rattle.image.specs.declared.BadImage.{BadImage}
+use Rattle.image.specs.declared.NotStored.{NotStored}
 use Prim.Native.String.{String}
 use Rattle.digits.specs.Operand.{operand_most}
 use Rattle.parts.specs.Parts.{most_bytes}
 use Rattle.image.specs.Image.{right_length, slots, body_bytes, slots_by, with_text, empty_image}
-use Rattle.image.specs.declared.Checked.{Checked}
-use Rattle.image.specs.declared.Stored.{Stored}
+
+-- what a check and a store answer: nothing more, or why not
+abbrev pub Checked : Type 0
+Checked = Result ⊤ BadImage
+
+abbrev pub Stored : Type 0
+Stored = Result ⊤ NotStored
 
 -- "image not 4,160 bytes, then bad image", with operands of so many digits at most
 unfoldable pub checked_by : ℕ → List ℕ → Checked
-checked_by most image = cond (right_length image) (cond (slots_by most image slots) Checked.Good Checked.Bad) Checked.WrongLength
+checked_by most image = cond (right_length image) (cond (slots_by most image slots) (Ok tt) (Err BadImage.Bad)) (Err BadImage.WrongLength)
 
 abbrev pub checked_of : List ℕ → Checked
 checked_of image = checked_by operand_most image
@@ -20,37 +27,35 @@ older_of image = checked_by most_bytes image
 
 -- the number of each answer, for the firmware
 abbrev pub checked_number : Checked → ℕ
-checked_number Checked.Good = 0
-checked_number Checked.WrongLength = 1
-checked_number Checked.Bad = 2
+checked_number (Ok u) = 0
+checked_number (Err BadImage.WrongLength) = 1
+checked_number (Err BadImage.Bad) = 2
 
 -- and its name: "image not 4,160 bytes, then bad image"
 abbrev pub checked_name : Checked → String
-checked_name Checked.Good = "good"
-checked_name Checked.WrongLength = "image not 4,160 bytes"
-checked_name Checked.Bad = "bad image"
+checked_name (Ok u) = "good"
+checked_name (Err BadImage.WrongLength) = "image not 4,160 bytes"
+checked_name (Err BadImage.Bad) = "bad image"
 
 -- what a store answers: "image not 4,160 bytes", a slot not "0 to 15", a text too long for its body, or done
 unfoldable pub stored_of : List ℕ → ℕ → List ℕ → Stored
 stored_of image slot text =
     cond
     (right_length image)
-    (cond (ltb slot slots) (cond (leb (length text) body_bytes) Stored.Done Stored.TooLong) Stored.NoSlot)
-    Stored.WrongLength
+    (cond (ltb slot slots) (cond (leb (length text) body_bytes) (Ok tt) (Err NotStored.TooLong)) (Err NotStored.NoSlot))
+    (Err NotStored.WrongLength)
 
 -- what each answer leaves: "`s` rewrites one entry and one body", a refusal nothing
 abbrev pub store_leaves : Stored → List ℕ → ℕ → List ℕ → List ℕ
-store_leaves Stored.Done image slot text = with_text image slot text
-store_leaves Stored.WrongLength image slot text = image
-store_leaves Stored.NoSlot image slot text = image
-store_leaves Stored.TooLong image slot text = image
+store_leaves (Ok u) image slot text = with_text image slot text
+store_leaves (Err e) image slot text = image
 
 -- and its name
 abbrev pub stored_name : Stored → String
-stored_name Stored.Done = "stored"
-stored_name Stored.WrongLength = "image not 4,160 bytes"
-stored_name Stored.NoSlot = "slot not 0 to 15"
-stored_name Stored.TooLong = "text over 256 bytes"
+stored_name (Ok u) = "stored"
+stored_name (Err NotStored.WrongLength) = "image not 4,160 bytes"
+stored_name (Err NotStored.NoSlot) = "slot not 0 to 15"
+stored_name (Err NotStored.TooLong) = "text over 256 bytes"
 
 unfoldable pub after_store : List ℕ → ℕ → List ℕ → List ℕ
 after_store image slot text = store_leaves (stored_of image slot text) image slot text

@@ -1,13 +1,11 @@
 -- What is claimed of images: which are good, and what a store and a clear do to every slot.
 -- 01, "Image of the programs". Assumes nothing.
-use Rattle.std.specs.Prelude.{ℕ, ◌*◌, ◌≤◌, ◌<◌, ◌≡◌, List, [], Bool, true, ◌&&◌, length, get_or, take}
+use Rattle.std.specs.Prelude.{ℕ, ◌*◌, ◌≤◌, ◌<◌, ◌≡◌, List, [], Bool, true, ◌&&◌, length, get_or, take, Ok}
 use Rattle.parts.specs.Parts.{padded, most_bytes}
 use Rattle.digits.specs.Operand.{operand_most, few_digits}
 use Rattle.lines.specs.Texts.{text_good}
 use Rattle.image.specs.Image.{image_bytes, right_length, slots, entry_bytes, body_bytes, contents_bytes, byte_values, length_in, slot_start}
 use Rattle.image.specs.Image.{entry_of, slot_body, slot_by, slot_good, slot_text, entry_for}
-use Rattle.image.specs.declared.Checked.{Checked}
-use Rattle.image.specs.declared.Stored.{Stored}
 use Rattle.image.specs.Calls.{checked_of, older_of, stored_of, after_store, after_clear}
 
 -- slot k is as it was
@@ -48,18 +46,18 @@ SameTexts a b = (k : ℕ) → k < slots → slot_text a k ≡ slot_text b k
 pub record StoreClaims (image : List ℕ) (k : ℕ) (text : List ℕ) : Type 0 where
   pub same_length : length (after_store image k text) ≡ length image
   -- a text that passes is stored wherever there is a slot
-  pub done : right_length image ≡ true → k < slots → text_good text ≡ true → stored_of image k text ≡ Stored.Done
+  pub done : right_length image ≡ true → k < slots → text_good text ≡ true → stored_of image k text ≡ Ok tt
   -- what was stored is there
-  pub holds : stored_of image k text ≡ Stored.Done → SlotHolds (after_store image k text) k text
+  pub holds : stored_of image k text ≡ Ok tt → SlotHolds (after_store image k text) k text
   -- "`s` rewrites one entry and one body": every other slot is as it was, good or not
   pub elsewhere : (j : ℕ) → j < slots → (j ≡ k → ⊥) → SlotKept j image (after_store image k text)
   -- a text that passes leaves a good image good
-  pub stays-good : checked_of image ≡ Checked.Good → text_good text ≡ true → checked_of (after_store image k text) ≡ Checked.Good
+  pub stays-good : checked_of image ≡ Ok tt → text_good text ≡ true → checked_of (after_store image k text) ≡ Ok tt
 
 -- "`?9` writes the good image with all slots empty"
 pub record ClearClaims (image : List ℕ) : Type 0 where
   pub same_length : length (after_clear image) ≡ length image
-  pub good : right_length image ≡ true → checked_of (after_clear image) ≡ Checked.Good
+  pub good : right_length image ≡ true → checked_of (after_clear image) ≡ Ok tt
   pub empty : (k : ℕ) → right_length image ≡ true → slot_text (after_clear image) k ≡ []
 
 pub record ImageClaims : Type 0 where
@@ -67,17 +65,17 @@ pub record ImageClaims : Type 0 where
   pub contents : entry_bytes * slots ≡ contents_bytes
   pub whole : slot_start slots ≡ image_bytes
   -- "the image is good when every ..": its length is right and all 16 slots are good, and then only
-  pub good-means : (image : List ℕ) → checked_of image ≡ Checked.Good → (length image ≡ image_bytes) × EverySlotGood image
-  pub good-when : (image : List ℕ) → length image ≡ image_bytes → EverySlotGood image → checked_of image ≡ Checked.Good
+  pub good-means : (image : List ℕ) → checked_of image ≡ Ok tt → (length image ≡ image_bytes) × EverySlotGood image
+  pub good-when : (image : List ℕ) → length image ≡ image_bytes → EverySlotGood image → checked_of image ≡ Ok tt
   -- 02, E9: a slot is good when it was so before and its text has no run of more than ten digits; a good image was good before
   pub slot-now : (image : List ℕ) (k : ℕ) → slot_good image k ≡ slot_older image k && few_digits operand_most (entry_text image k)
-  pub good-before : (image : List ℕ) → checked_of image ≡ Checked.Good → older_of image ≡ Checked.Good
-  pub older-means : (image : List ℕ) → older_of image ≡ Checked.Good → (length image ≡ image_bytes) × EverySlotOlder image
+  pub good-before : (image : List ℕ) → checked_of image ≡ Ok tt → older_of image ≡ Ok tt
+  pub older-means : (image : List ℕ) → older_of image ≡ Ok tt → (length image ≡ image_bytes) × EverySlotOlder image
   -- every text that is read from an image passes the check for stored text, and fits a body
   pub texts_pass : (image : List ℕ) (k : ℕ) → text_good (slot_text image k) ≡ true
   pub texts_fit : (image : List ℕ) (k : ℕ) → length (slot_text image k) ≤ body_bytes
   -- "the good image": its texts leave no byte of it open
-  pub told_by_texts : (a b : List ℕ) → Bytes a → Bytes b → checked_of a ≡ Checked.Good → checked_of b ≡ Checked.Good
+  pub told_by_texts : (a b : List ℕ) → Bytes a → Bytes b → checked_of a ≡ Ok tt → checked_of b ≡ Ok tt
       → SameTexts a b → a ≡ b
   pub stores : (image : List ℕ) (k : ℕ) (text : List ℕ) → StoreClaims image k text
   -- "an empty one clears the slot"

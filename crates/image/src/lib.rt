@@ -1,25 +1,27 @@
 // The image of the programs in lent bytes: judged, read, stored to, cleared. Nothing else knows how it is laid out.
 #![tactic(auto)]
 
-ghost use Rattle.std.specs.Prelude.{◌≡◌, ◌+◌, ◌*◌, ◌<◌, ◌≤◌, ◌&&◌, length, eqb};
-ghost use Rattle.image.specs.Image.{image_bytes, right_length, slots, entry_bytes, body_bytes, word_at, slot_start, entry_of, slot_body};
+mod slot;
+
+ghost use Rattle.std.specs.Prelude.{◌≡◌, ◌+◌, ◌<◌, ◌≤◌, length};
+ghost use Rattle.image.specs.Image.{image_bytes, right_length, entry_bytes, body_bytes, word_at, entry_of, slot_body};
 ghost use Rattle.image.specs.Image.{all_zeros, good_at, slot_by, slot_good, slot_text, with_entry, with_body};
 ghost use Rattle.image.specs.Calls.{checked_by, checked_of, older_of, StoredIs, ClearedIs};
 ghost use Rattle.image.specs.Claims.{ImageClaims};
 
-// Whether an image is good.
-#[derive(Clone, Copy)]
-pub enum Checked {
-    Good,
+use slot::Slot;
+
+// Why an image is not good.
+#[derive(Clone, Copy, PartialEq, Eq)]
+pub enum BadImage {
     // It is not 4,160 bytes.
     WrongLength,
     Bad,
 }
 
-// What a store came to.
-#[derive(Clone, Copy)]
-pub enum Stored {
-    Done,
+// Why a text is not stored.
+#[derive(Clone, Copy, PartialEq, Eq)]
+pub enum NotStored {
     // The image is not 4,160 bytes.
     WrongLength,
     // The slot is not 0 to 15.
@@ -40,36 +42,34 @@ const CONTENTS_BYTES: usize = 64;
 
 const BODY_BYTES: usize = 256;
 
-// A byte has so many values.
-const BYTE_VALUES: usize = 256;
-
 // Whether an image is good.
-pub fn check_image(image: &[u8]) -> Checked
+pub fn check_image(image: &[u8]) -> Result<(), BadImage>
     ensures { result ≡ checked_of image.now }
 {
     check_by(image, digits::OPERAND_MOST)
 }
 
 // Whether an image is good but for operands of too many digits: a text has no more digits than bytes.
-pub fn check_older(image: &[u8]) -> Checked
+pub fn check_older(image: &[u8]) -> Result<(), BadImage>
     ensures { result ≡ older_of image.now }
 {
     check_by(image, BODY_BYTES)
 }
 
 // Whether an image is good, with operands of so many digits at most.
-fn check_by(image: &[u8], most: usize) -> Checked
+fn check_by(image: &[u8], most: usize) -> Result<(), BadImage>
     ensures { result ≡ checked_by most image.now }
 {
     if image.len() != IMAGE_BYTES {
-        return Checked::WrongLength;
+        return Err(BadImage::WrongLength);
     }
+    // As `(0..SLOTS).all(..)` it was tried: from calls of a closure that reads a slice the check did not find `slots_by`.
     for slot in 0..SLOTS {
         if !slot_by(image, slot, most) {
-            return Checked::Bad;
+            return Err(BadImage::Bad);
         }
     }
-    Checked::Good
+    Ok(())
 }
 
 // Whether the image has the right length.
@@ -93,11 +93,11 @@ fn slot_by(image: &[u8], slot: u32, most: usize) -> bool
     if image.len() != IMAGE_BYTES {
         return false;
     }
-    if SLOTS <= slot {
+    let Some(slot) = Slot::new(slot) else {
         return false;
-    }
+    };
     good_at(
-        start_of(slot),
+        slot.start(),
         entry_of(image, slot),
         body_of(image, slot),
         most,
@@ -108,31 +108,31 @@ fn slot_by(image: &[u8], slot: u32, most: usize) -> bool
 pub fn slot_text(image: &[u8], slot: u32) -> &[u8]
     ensures { result.now ≡ slot_text image.now slot }
 {
-    if slot_good(image, slot) {
-        let n = word_at(entry_of(image, slot), WORD_BYTES);
-        let body = body_of(image, slot);
-        &body[0..n]
-    } else {
-        &image[0..0]
+    match Slot::new(slot) {
+        Some(at) if slot_good(image, slot) => {
+            let n = word_at(entry_of(image, at), WORD_BYTES);
+            &body_of(image, at)[..n]
+        }
+        _ => &image[..0],
     }
 }
 
 // Makes a text that of a slot: its entry and its body are written anew, and nothing else. The text is not judged.
-pub fn store(image: &mut [u8], slot: u32, text: &[u8]) -> Stored
+pub fn store(image: &mut [u8], slot: u32, text: &[u8]) -> Result<(), NotStored>
     ensures { StoredIs image.old slot text.now result image.new }
 {
     if image.len() != IMAGE_BYTES {
-        return Stored::WrongLength;
+        return Err(NotStored::WrongLength);
     }
-    if SLOTS <= slot {
-        return Stored::NoSlot;
-    }
+    let Some(slot) = Slot::new(slot) else {
+        return Err(NotStored::NoSlot);
+    };
     if BODY_BYTES < text.len() {
-        return Stored::TooLong;
+        return Err(NotStored::TooLong);
     }
     put_entry(image, slot, text.len());
     put_body(image, slot, text);
-    Stored::Done
+    Ok(())
 }
 
 // Makes the image the good one with all slots empty; whether its length was right.
@@ -142,55 +142,40 @@ pub fn clear(image: &mut [u8]) -> bool
     if image.len() != IMAGE_BYTES {
         return false;
     }
-    for slot in 0..SLOTS {
-        put_entry(image, slot, 0);
+    for number in 0..SLOTS {
+        put_entry(image, Slot { number }, 0);
     }
     parts::wipe_at(image, CONTENTS_BYTES, IMAGE_BYTES - CONTENTS_BYTES);
     true
 }
 
-// Where the body of a slot starts.
-fn start_of(slot: u32) -> usize
-    requires { slot < slots }
-    ensures { result ≡ slot_start slot }
-{
-    CONTENTS_BYTES + BODY_BYTES * (slot as usize)
-}
-
-// Where the entry of a slot stands.
-fn entry_place(slot: u32) -> usize
-    requires { slot < slots }
-    ensures { result ≡ entry_bytes * slot }
-{
-    ENTRY_BYTES * (slot as usize)
-}
-
+// The length stands in four contracts: a lent slice as an array is a Result or an Option of a reference, which lies otherwise on a
+// chip, where `chip/pointer-places` refuses it.
 // The entry of a slot.
-fn entry_of(image: &[u8], slot: u32) -> &[u8]
-    requires { (length image.now ≡ image_bytes) × (slot < slots) }
-    ensures { result.now ≡ entry_of image.now slot }
+fn entry_of(image: &[u8], slot: Slot) -> &[u8]
+    requires { length image.now ≡ image_bytes }
+    ensures { result.now ≡ entry_of image.now slot.number }
 {
-    let at = entry_place(slot);
+    let at = slot.entry_place();
     &image[at..at + ENTRY_BYTES]
 }
 
 // The body of a slot.
-fn body_of(image: &[u8], slot: u32) -> &[u8]
-    requires { (length image.now ≡ image_bytes) × (slot < slots) }
-    ensures { result.now ≡ slot_body image.now slot }
+fn body_of(image: &[u8], slot: Slot) -> &[u8]
+    requires { length image.now ≡ image_bytes }
+    ensures { result.now ≡ slot_body image.now slot.number }
 {
-    let at = start_of(slot);
+    let at = slot.start();
     &image[at..at + BODY_BYTES]
 }
 
 // The number in two bytes from a place, low byte first.
+#[tactic(auto, unfolding(crate::specs::Image::word_at))]
 fn word_at(bytes: &[u8], at: usize) -> usize
     requires { at + 1 < length bytes.now }
     ensures { result ≡ word_at bytes.now at }
 {
-    let low = bytes[at] as usize;
-    let high = bytes[at + 1] as usize;
-    low + BYTE_VALUES * high
+    usize::from(u16::from_le_bytes([bytes[at], bytes[at + 1]]))
 }
 
 // Whether an entry and a body are good as those of a slot that is to start so, with operands of so many digits at most.
@@ -205,7 +190,7 @@ fn good_at(start: usize, entry: &[u8], body: &[u8], most: usize) -> bool
     if BODY_BYTES < n {
         return false;
     }
-    if lines::check_text_by(&body[0..n], most) {
+    if lines::check_text_by(&body[..n], most) {
         return all_zero(&body[n..]);
     }
     false
@@ -216,40 +201,32 @@ fn all_zero(bytes: &[u8]) -> bool
     ensures { result ≡ all_zeros bytes.now }
 {
     let mut clean = true;
-    for i in 0..bytes.len() {
-        clean = zero_too(clean, bytes[i]);
+    for byte in bytes {
+        clean &= *byte == 0;
     }
     clean
 }
 
-// Whether all was 0 so far, and the next byte is too.
-fn zero_too(clean: bool, next: u8) -> bool
-    ensures { result ≡ clean && eqb next 0 }
-{
-    if clean { next == 0 } else { false }
-}
-
 // Writes the entry of a slot whose text has n bytes.
-fn put_entry(image: &mut [u8], slot: u32, n: usize)
-    requires { (length image.old ≡ image_bytes) × (slot < slots) × (n ≤ body_bytes) }
-    ensures { image.new ≡ with_entry image.old slot n }
+fn put_entry(image: &mut [u8], slot: Slot, n: usize)
+    requires { (length image.old ≡ image_bytes) × (n ≤ body_bytes) }
+    ensures { image.new ≡ with_entry image.old slot.number n }
 {
-    let start = start_of(slot);
-    let entry = [
-        (start % BYTE_VALUES) as u8,
-        (start / BYTE_VALUES) as u8,
-        (n % BYTE_VALUES) as u8,
-        (n / BYTE_VALUES) as u8,
-    ];
-    parts::put_at(image, entry_place(slot), &entry);
+    let [start_low, start_high] = (slot.start() as u16).to_le_bytes();
+    let [n_low, n_high] = (n as u16).to_le_bytes();
+    parts::put_at(
+        image,
+        slot.entry_place(),
+        &[start_low, start_high, n_low, n_high],
+    );
 }
 
 // Writes the body of a slot: a text, and zeros behind it.
-fn put_body(image: &mut [u8], slot: u32, text: &[u8])
-    requires { (length image.old ≡ image_bytes) × (slot < slots) × (length text.now ≤ body_bytes) }
-    ensures { image.new ≡ with_body image.old slot text.now }
+fn put_body(image: &mut [u8], slot: Slot, text: &[u8])
+    requires { (length image.old ≡ image_bytes) × (length text.now ≤ body_bytes) }
+    ensures { image.new ≡ with_body image.old slot.number text.now }
 {
-    let start = start_of(slot);
+    let start = slot.start();
     let n = text.len();
     parts::put_at(image, start, text);
     parts::wipe_at(image, start + n, BODY_BYTES - n);

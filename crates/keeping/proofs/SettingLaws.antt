@@ -1,4 +1,5 @@
 -- A setting that is set is in the range of its row, and the others stay: so what is told of them stays small. Assumes nothing.
+use Rattle.std.specs.Prelude.{Option, Some, None, unwrap_or}
 use Prim.Native.Nat.{ℕ, ◌≤◌}
 use mathlib.Core.Path.{◌≡◌, refl, sym}
 use mathlib.Core.Bool.{true, and-eq-true_iff}
@@ -11,15 +12,12 @@ use Rattle.commands.specs.declared.Command.TheVariants.{Plain}
 use Rattle.commands.specs.declared.Act.TheVariants.{Set}
 use Rattle.commands.specs.declared.Setting.{Setting}
 use Rattle.commands.specs.declared.Setting.TheVariants.{TopSpeed}
-use Rattle.commands.specs.declared.Exponent.{Exponent}
-use Rattle.commands.specs.declared.Exponent.TheVariants.{Power, NoPower}
 use Rattle.commands.specs.declared.Range.{Range}
 use Rattle.commands.specs.Table.{setting_letter, table, find, asks_of, within, exponent_of}
 use Rattle.commands.specs.Writing.{permits, in_range}
 use Rattle.commands.proofs.TableLaws.{exponent_most}
 use Rattle.turns.specs.declared.setting.Settings.{Settings}
 use Rattle.turns.specs.declared.Core.{Core}
-use Rattle.turns.specs.Settings.{exponent_or}
 use Rattle.keeping.specs.Deeds.{SettingsLead, none, setting, EndlessLeads, same-speed, from_v}
 
 -- a number from a row of the table is at most the row's greatest
@@ -33,9 +31,9 @@ unfolding in_range
 row-holds l n which e r = rw (← e) r
 
 -- an exponent that is kept is one, or the one before
-exponent_small : (n k : ℕ) → k ≤ 8 → (e : Exponent) → exponent_of n ≡ e → exponent_or k e ≤ 8
-exponent_small n k h (Power e) q = exponent_most n e q
-exponent_small n k h NoPower q = h
+exponent_small : (n k : ℕ) → k ≤ 8 → (e : Option ℕ) → exponent_of n ≡ e → unwrap_or e k ≤ 8
+exponent_small n k h (Some e) q = exponent_most n e q
+exponent_small n k h None q = h
 
 abbrev Wide : ℕ → Type 0
 Wide n = n ≤ widest

@@ -1,5 +1,7 @@
 -- Why a line is refused: the reading goes from the left, so what stands before a bad command reads as commands, and read alone it reads
 -- the same. Assumes nothing.
+use Rattle.std.specs.Prelude.{Result, Option, Some, None, Ok, Err}
+use Rattle.lines.specs.Texts.{Judged}
 use Prim.Native.Nat.{ℕ, zero, suc, ◌+◌, ◌-◌, ◌≤◌, ◌<◌}
 use mathlib.Core.Path.{◌≡◌, refl, sym, ap, subst, ◌∙◌}
 use mathlib.Core.List.{List, [], ◌∷◌, ◌++◌, append_assoc}
@@ -22,12 +24,8 @@ use Rattle.commands.specs.declared.Read.TheVariants.{At, Bad, End}
 use Rattle.commands.specs.Reading.{fault, bad_operand, read_at}
 use Rattle.commands.proofs.ReadingLaws.{read_step, read_place, read_on, bad-inside, on_read}
 use Rattle.commands.proofs.SpelledLaws.{spells_as}
-use Rattle.lines.specs.declared.Slot.{Slot}
-use Rattle.lines.specs.declared.Slot.TheVariants.{NoSlot, Into}
 use Rattle.lines.specs.declared.Body.{Body}
 use Rattle.lines.specs.declared.Taken.{Taken}
-use Rattle.lines.specs.declared.Judged.{Judged}
-use Rattle.lines.specs.declared.Judged.TheVariants.{Passes, Refused}
 use Rattle.lines.specs.Texts.{Reading, commands, faulty, Placed, placed, unplaced, before, goes_on_lem, reading_from, structured, storable, fault_places, stored_places, judged_places, leftmost, judged, line_judged, stored_by, stored_judged}
 use Rattle.lines.specs.Bodies.{body_of, ends_with_r, taken, behind, most_slot, store_of, stored_at, taken_of, line_of, line_code_lem}
 use Rattle.lines.specs.Lists.{HostList, run_text, all_in_range, slot_in_range, list_fault, SpellsCommands, none, more, SpellsSlot, without, into, Spells, spells}
@@ -116,7 +114,7 @@ cut_is b head front tail p e n =
     ap (λ (x : List ℕ). x ++ (82 ∷ [])) (ap (λ (x : List ℕ). take (p - 1) x) whole ∙ take_at (head ++ front) tail (p - 1) long)
     ∙ append_assoc head front (82 ∷ [])
 
-reads_before : {s : Slot} {head : List ℕ} {cs : List Command} {front : List ℕ} (b tail : List ℕ) (p : ℕ) → SpellsSlot s head → SpellsCommands cs front
+reads_before : {s : Option ℕ} {head : List ℕ} {cs : List Command} {front : List ℕ} (b tail : List ℕ) (p : ℕ) → SpellsSlot s head → SpellsCommands cs front
     → slot_in_range s ≡ true → all_in_range cs ≡ true → b ≡ head ++ (front ++ tail) → length head + length front + 1 ≡ p → p ≤ most_bytes → ReadsBefore b p
 unfolding list_fault
 reads_before {s} {head} {cs} {front} b tail p a w h k e n m =
@@ -138,10 +136,10 @@ data Why (places : List Placed → List ℕ) (r : Reading) (f : Fault) : Type 0 
   shape : (cs : List Placed) → r ≡ commands cs → nowhere (places cs) ≡ false → f.code ≡ 2 → Why places r f
   read : r ≡ faulty f → Why places r f
 
-why : (places : List Placed → List ℕ) (r : Reading) (f : Fault) → judged places r ≡ Refused f → Why places r f
+why : (places : List Placed → List ℕ) (r : Reading) (f : Fault) → judged places r ≡ Err f → Why places r f
 why places (commands cs) f e = go (places cs) refl e
   where
-    go : (ps : List ℕ) → places cs ≡ ps → judged_places ps ≡ Refused f → Why places (commands cs) f
+    go : (ps : List ℕ) → places cs ≡ ps → judged_places ps ≡ Err f → Why places (commands cs) f
     go [] q k = no (cc)
     go (p ∷ ps) q k =
         let w : fault 2 (leftmost (p ∷ ps)) ≡ f = cc in
@@ -157,14 +155,14 @@ module _ (b : List ℕ) (m : length b ≤ most_bytes) where
   run : Bool
   run = ends_with_r b
 
-  line-because : (f : Fault) → line_judged (text_of b) ≡ Refused f → Because b f
+  line-because : (f : Fault) → line_judged (text_of b) ≡ Err f → Because b f
   unfolding line_judged list_fault t run
   line-because f e = go (why (fault_places []) (reading_from t 0) f e)
     where
       go : Why (fault_places []) (reading_from t 0) f → Because b f
       go (shape cs q h k) =
           let w = reading_spells cs t 0 q in
-          let l : HostList = record { slot = NoSlot; listed = unplaced cs; run = run } in
+          let l : HostList = record { slot = None; listed = unplaced cs; run = run } in
           let broken : structured 0 (unplaced cs) ≡ false = sym (places-none [] cs) ∙ h in
           by_structure l (subst (λ (x : List ℕ). Spells l x) (sym (text-run b)) (spells run without w.0)) (rw (w.1, broken)) k
       go (read q) =
@@ -176,7 +174,7 @@ module _ (b : List ℕ) (m : length b ≤ most_bytes) where
           by_command w.there (reads_before b (tail ++ run_text run) f.place without w.spelt refl w.ranges bytes w.counted (omega (arith, text-length b, w.counted)))
 
   store-because : (slot at : ℕ) (f : Fault) → get_or (text_of b) 0 0 ≡ 115 → operand_up_to operand_most (text_of b) 1 ≡ Number slot at → leb slot most_slot ≡ true
-      → taken (behind at (stored_judged (ends_with_r b) (drop at (text_of b)))) (Taken.Store slot at (length (text_of b) - at)) ≡ Taken.Refused f → Because b f
+      → taken (behind at (stored_judged (ends_with_r b) (drop at (text_of b)))) (Taken.Store slot at (length (text_of b) - at)) ≡ Err f → Because b f
   unfolding stored_by list_fault t run
   store-because slot at f first number h e = judge (stored_judged run (drop at t)) refl e
     where
@@ -211,7 +209,7 @@ module _ (b : List ℕ) (m : length b ≤ most_bytes) where
       go : (g : Fault) → fault g.code (at + g.place) ≡ f → Why (stored_places run (length s)) (reading_from s 0) g → Because b f
       go g same (shape cs q k two) =
           let w = reading_spells cs s 0 q in
-          let l : HostList = record { slot = Into slot; listed = unplaced cs; run = run } in
+          let l : HostList = record { slot = Some slot; listed = unplaced cs; run = run } in
           let broken : (storable (unplaced cs) && run) ≡ false = sym (stored-none run (length s) cs) ∙ k in
           let bytes : b ≡ head ++ (s ++ run_text run) = text-run b ∙ ap (λ (x : List ℕ). x ++ run_text run) text ∙ append_assoc head s (run_text run) in
           by_structure l (subst (λ (x : List ℕ). Spells l x) (sym bytes) (spells run (into slot zeros few) w.0)) (rw (h, w.1, broken)) (sym (ap (λ (x : Fault). x.code) same) ∙ two)
@@ -231,12 +229,12 @@ module _ (b : List ℕ) (m : length b ≤ most_bytes) where
           (omega (arith, w.counted, long))
           (omega (arith, w.counted, long, inside, length-drop at t, past.1, text-length b)))
 
-      judge : (j : Judged) → stored_judged run s ≡ j → taken (behind at j) (Taken.Store slot at (length t - at)) ≡ Taken.Refused f → Because b f
-      judge Passes q k = no (cc)
-      judge (Refused g) q k = let same : fault g.code (at + g.place) ≡ f = cc in go g same (why (stored_places run (length s)) (reading_from s 0) g q)
+      judge : (j : Judged) → stored_judged run s ≡ j → taken (behind at j) (Taken.Store slot at (length t - at)) ≡ Err f → Because b f
+      judge (Ok u) q k = no (cc)
+      judge (Err g) q k = let same : fault g.code (at + g.place) ≡ f = cc in go g same (why (stored_places run (length s)) (reading_from s 0) g q)
 
   -- the slot itself is at fault
-  slot-because : (f : Fault) → get_or (text_of b) 0 0 ≡ 115 → Taken.Refused (bad_operand 1) ≡ Taken.Refused f → Because b f
+  slot-because : (f : Fault) → get_or (text_of b) 0 0 ≡ 115 → ◌≡◌ {A = Result Taken Fault} (Err (bad_operand 1)) (Err f) → Because b f
   unfolding all_in_range
   slot-because f first e =
       let same : bad_operand 1 ≡ f = cc in
@@ -251,7 +249,7 @@ module _ (b : List ℕ) (m : length b ≤ most_bytes) where
       begins [] r q w = absurd (omega arith)
       begins (y ∷ ys) r q w = rw w q
 
-pub because : (b : List ℕ) (f : Fault) → body_of b ≡ Body.Line → line_of b ≡ Taken.Refused f → Because b f
+pub because : (b : List ℕ) (f : Fault) → body_of b ≡ Ok Body.Line → line_of b ≡ Err f → Because b f
 unfolding line_of taken_of
 because b f l e = go (eqb (get_or t 0 0) 115) refl e
   where
@@ -261,20 +259,20 @@ because b f l e = go (eqb (get_or t 0 0) 115) refl e
     m : length b ≤ most_bytes
     m = line-short b l
 
-    line : (j : Judged) → line_judged t ≡ j → taken j (Taken.Line (length t) (ends_with_r b)) ≡ Taken.Refused f → Because b f
-    line Passes q k = no (cc)
-    line (Refused g) q k = let same : g ≡ f = cc in line-because b m f (q ∙ ap Refused same)
+    line : (j : Judged) → line_judged t ≡ j → taken j (Taken.Line (length t) (ends_with_r b)) ≡ Err f → Because b f
+    line (Ok u) q k = no (cc)
+    line (Err g) q k = let same : g ≡ f = cc in line-because b m f (q ∙ ap Err same)
 
-    store : get_or t 0 0 ≡ 115 → (o : Operand) → operand_up_to operand_most t 1 ≡ o → store_of o t (ends_with_r b) ≡ Taken.Refused f → Because b f
+    store : get_or t 0 0 ≡ 115 → (o : Operand) → operand_up_to operand_most t 1 ≡ o → store_of o t (ends_with_r b) ≡ Err f → Because b f
     store s Missing w k = slot-because b m f s k
     store s (Above at) w k = slot-because b m f s k
     store s (Number n at) w k = slots (leb n most_slot) refl k
       where
-        slots : (x : Bool) → leb n most_slot ≡ x → cond x (stored_at n at t (ends_with_r b)) (Taken.Refused (bad_operand 1)) ≡ Taken.Refused f → Because b f
+        slots : (x : Bool) → leb n most_slot ≡ x → cond x (stored_at n at t (ends_with_r b)) (Err (bad_operand 1)) ≡ Err f → Because b f
         slots true h q = store-because b m n at f s w h q
         slots false h q = slot-because b m f s q
 
-    go : (x : Bool) → eqb (get_or t 0 0) 115 ≡ x → cond x (store_of (operand_up_to operand_most t 1) t (ends_with_r b)) (taken (line_judged t) (Taken.Line (length t) (ends_with_r b))) ≡ Taken.Refused f
+    go : (x : Bool) → eqb (get_or t 0 0) 115 ≡ x → cond x (store_of (operand_up_to operand_most t 1) t (ends_with_r b)) (taken (line_judged t) (Taken.Line (length t) (ends_with_r b))) ≡ Err f
         → Because b f
     go true q k = store (eqb-true (get_or t 0 0) 115 q) (operand_up_to operand_most t 1) refl k
     go false q k = line (line_judged t) refl k

@@ -1,5 +1,6 @@
 -- What is taken, and what passes a check, has no run of too many digits; where there is none, every limit judges alike.
 -- Assumes nothing.
+use Rattle.std.specs.Prelude.{Option, Ok}
 use Prim.Native.Nat.{ℕ, ◌≤◌, ◌<◌}
 use mathlib.Core.Path.{◌≡◌, refl, sym, ap, ◌∙◌}
 use mathlib.Core.List.{List, [], ◌++◌, append-nil, append_assoc}
@@ -16,7 +17,6 @@ use Rattle.digits.proofs.FewLaws.{few-when, few_no_digit, few_digits_lem}
 use Rattle.commands.specs.declared.Command.{Command}
 use Rattle.commands.proofs.WritingLaws.{letter-first, spelling_no_digit, spelling-few, spelling-most}
 use Rattle.lines.specs.declared.Body.{Body}
-use Rattle.lines.specs.declared.Slot.{Slot}
 use Rattle.parts.specs.Parts.{most_bytes}
 use Rattle.lines.specs.Texts.{Reading, stored_places, judged, passed, stored_by, text_good_by, text_good, older_good}
 use Rattle.lines.specs.Bodies.{body_of, line_of, taken_code}
@@ -49,12 +49,12 @@ run-few false = (refl, refl)
 spells-few : {l : HostList} {b : List ℕ} → Spells l b → few_digits operand_most b ≡ true
 spells-few (spells {a = a} {b = t} run s w) = slot (t ++ run_text run) s (commands-few (run_text run) w (run-few run))
   where
-    slot : {x : Slot} {head : List ℕ} (rest : List ℕ) → SpellsSlot x head → Few rest → few_digits operand_most (head ++ rest) ≡ true
+    slot : {x : Option ℕ} {head : List ℕ} (rest : List ℕ) → SpellsSlot x head → Few rest → few_digits operand_most (head ++ rest) ≡ true
     slot rest without h = h.1
     slot rest (into n z m) h =
         few_no_digit operand_most 115 (spelling z n ++ rest) refl ((few_digits_lem operand_most (spelling z n) rest (spelling_digit z n) h.0).1 m h.1)
 
-pub taken-few : (b : List ℕ) → body_of b ≡ Body.Line → taken_code (line_of b) ≡ 0 → few_digits operand_most b ≡ true
+pub taken-few : (b : List ℕ) → body_of b ≡ Ok Body.Line → taken_code (line_of b) ≡ 0 → few_digits operand_most b ≡ true
 taken-few b l e = spells-few (taken-spelled b l e).spelled.spells
 
 pub checked-few : (t : List ℕ) → Checked t → few_digits operand_most t ≡ true

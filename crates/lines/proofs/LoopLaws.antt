@@ -1,4 +1,5 @@
 -- What a checked text has at each of its places, and the loops that enclose a place. Assumes nothing.
+use Rattle.std.specs.Prelude.{Ok}
 use Prim.Native.Nat.{ℕ, zero, suc, ◌+◌, ◌-◌, ◌≤◌, ◌<◌}
 use mathlib.Core.Path.{◌≡◌, refl, sym, ◌∙◌}
 use mathlib.Core.List.{List, [], ◌∷◌}
@@ -13,7 +14,6 @@ use Rattle.commands.specs.declared.Read.{Read}
 use Rattle.commands.specs.declared.Read.TheVariants.{At, Bad, End}
 use Rattle.commands.specs.Reading.{fault, read_at}
 use Rattle.commands.proofs.ReadingLaws.{read_step}
-use Rattle.lines.specs.declared.Judged.TheVariants.{Passes}
 use Rattle.lines.specs.Texts.{Reading, commands, faulty, Placed, placed, unplaced, before, goes_on_lem, reading_from, structured, skippable, rest, fault_places, stored_places, judged_places, judged, line_judged, storable, stored_by, stored_judged, most_open}
 use Rattle.lines.specs.Loops.{open_after, Enclosed, start, next, scan_to, enclosing, Checked, Skippable, Lawful}
 use Rattle.lines.proofs.PlaceLaws.{nowhere, nil-none, places-none, stored-none}
@@ -28,26 +28,26 @@ pub record Rest (t : List ℕ) (at depth : ℕ) : Type 0 where
   pub holds : structured depth (unplaced left) ≡ true
 
 -- what passes has no faulty place
-pub passes : (places : List Placed → List ℕ) (r : Reading) → judged places r ≡ Passes → (cs : List Placed) × (r ≡ commands cs) × (nowhere (places cs) ≡ true)
+pub passes : (places : List Placed → List ℕ) (r : Reading) → judged places r ≡ Ok tt → (cs : List Placed) × (r ≡ commands cs) × (nowhere (places cs) ≡ true)
 passes places (commands cs) e = (cs, refl, go (places cs) e)
   where
-    go : (ps : List ℕ) → judged_places ps ≡ Passes → nowhere ps ≡ true
+    go : (ps : List ℕ) → judged_places ps ≡ Ok tt → nowhere ps ≡ true
     go [] k = refl
     go (p ∷ ps) k = let z : ◌≡◌ {A = ℕ} 0 1 = cc in absurd (omega arith)
 passes places (faulty f) e = let z : ◌≡◌ {A = ℕ} 0 1 = cc in absurd (omega arith)
 
 -- a line's commands, a store's
-pub line-passes : (t : List ℕ) → line_judged t ≡ Passes → (cs : List Placed) × (reading_from t 0 ≡ commands cs) × (structured 0 (unplaced cs) ≡ true)
+pub line-passes : (t : List ℕ) → line_judged t ≡ Ok tt → (cs : List Placed) × (reading_from t 0 ≡ commands cs) × (structured 0 (unplaced cs) ≡ true)
 unfolding line_judged
 line-passes t e = let p = passes (fault_places []) (reading_from t 0) e in (p.0, p.1, sym (places-none [] p.0) ∙ p.2)
 
-pub stored-passes : (run : Bool) (t : List ℕ) → stored_judged run t ≡ Passes → (cs : List Placed) × (reading_from t 0 ≡ commands cs) × ((storable (unplaced cs) && run) ≡ true)
+pub stored-passes : (run : Bool) (t : List ℕ) → stored_judged run t ≡ Ok tt → (cs : List Placed) × (reading_from t 0 ≡ commands cs) × ((storable (unplaced cs) && run) ≡ true)
 unfolding stored_by
 stored-passes run t e =
     let p = passes (stored_places run (length t)) (reading_from t 0) e in (p.0, p.1, sym (stored-none run (length t) p.0) ∙ p.2)
 
 -- "the check for stored text" is stricter than a line's
-pub stored-checked : (run : Bool) (t : List ℕ) → stored_judged run t ≡ Passes → Checked t
+pub stored-checked : (run : Bool) (t : List ℕ) → stored_judged run t ≡ Ok tt → Checked t
 unfolding line_judged
 stored-checked run t e =
     let p = stored-passes run t e in

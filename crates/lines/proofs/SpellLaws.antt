@@ -1,5 +1,7 @@
 -- What is taken as a line or a store, and what reads as a list, spells that list with nothing wrong in it:
 -- each command that reads is a spelling, one behind the other. Assumes nothing.
+use Rattle.std.specs.Prelude.{Some, None, Result, Ok, Err}
+use Rattle.commands.specs.declared.Fault.{Fault}
 use Prim.Native.Nat.{ℕ, ◌+◌, ◌-◌, ◌≤◌}
 use mathlib.Core.Path.{◌≡◌, refl, sym, ap, subst, ◌∙◌}
 use mathlib.Core.List.{List, [], ◌∷◌, ◌++◌}
@@ -22,7 +24,6 @@ use Rattle.commands.specs.Table.{one_of}
 use Rattle.commands.specs.Reading.{fault, read_at}
 use Rattle.commands.proofs.ReadingLaws.{read_step}
 use Rattle.commands.proofs.SpelledLaws.{spells_as}
-use Rattle.lines.specs.declared.Slot.TheVariants.{NoSlot, Into}
 use Rattle.lines.specs.declared.Body.{Body}
 use Rattle.lines.specs.declared.Taken.{Taken}
 use Rattle.lines.specs.Texts.{commands, Placed, placed, unplaced, goes_on_lem, reading_from, structured}
@@ -92,11 +93,11 @@ slot-few t slot at e =
     omega (arith, k.1, read_length t (drop at t) 1 w.zeros slot w.bytes w.no_more, spelling-long w.zeros slot)
 
 -- a body that is read as a line is not over-long
-pub line-short : (b : List ℕ) → body_of b ≡ Body.Line → length b ≤ most_bytes
+pub line-short : (b : List ℕ) → body_of b ≡ Ok Body.Line → length b ≤ most_bytes
 unfolding body_of
 line-short b e = go (ltb most_bytes (length b)) refl e
   where
-    go : (o : Bool) → ltb most_bytes (length b) ≡ o → cond o (Body.Refused (fault 2 0)) (cond (begins_immediate b) (immediate_in immediates b) (other_of b)) ≡ Body.Line
+    go : (o : Bool) → ltb most_bytes (length b) ≡ o → cond o (Err (fault 2 0)) (cond (begins_immediate b) (immediate_in immediates b) (other_of b)) ≡ Ok Body.Line
         → length b ≤ most_bytes
     go true q k = no (cc)
     go false q k = ltb-false most_bytes (length b) q
@@ -104,7 +105,7 @@ line-short b e = go (ltb most_bytes (length b)) refl e
 spelled_as : (b : List ℕ) (l : HostList) → length b ≤ most_bytes → Spells l b → list_fault l ≡ 0 → Spelled b
 spelled_as b l m w e = record { means = l; spelled = record { short = m; spells = w; no_fault_lem = e }; reads = (spelled-taken m w e).1 }
 
-line-spelled : (b : List ℕ) (n : ℕ) (r : Bool) → length b ≤ most_bytes → line_of b ≡ Taken.Line n r → Spelled b
+line-spelled : (b : List ℕ) (n : ℕ) (r : Bool) → length b ≤ most_bytes → line_of b ≡ Ok (Taken.Line n r) → Spelled b
 unfolding line_of list_fault
 line-spelled b n r m e =
     let t : List ℕ = text_of b in
@@ -113,10 +114,10 @@ line-spelled b n r m e =
     let p = line-passes t k.passes in
     let w = reading_spells p.0 t 0 p.1 in
     let bytes : t ++ run_text run ≡ b = sym (text-run b) in
-    let l : HostList = record { slot = NoSlot; listed = unplaced p.0; run = run } in
+    let l : HostList = record { slot = None; listed = unplaced p.0; run = run } in
     spelled_as b l m (subst (λ (x : List ℕ). Spells l x) bytes (spells run without w.0)) (rw (w.1, p.2))
 
-store-spelled : (b : List ℕ) (slot at n : ℕ) → length b ≤ most_bytes → line_of b ≡ Taken.Store slot at n → Spelled b
+store-spelled : (b : List ℕ) (slot at n : ℕ) → length b ≤ most_bytes → line_of b ≡ Ok (Taken.Store slot at n) → Spelled b
 unfolding line_of list_fault
 store-spelled b slot at n m e =
     let t : List ℕ = text_of b in
@@ -129,32 +130,32 @@ store-spelled b slot at n m e =
     let w = reading_spells p.0 (drop at t) 0 p.1 in
     let first : get_or t 0 0 ≡ 115 = eqb-true (get_or t 0 0) 115 k.store in
     let bytes = store_bytes b (spelling num.zeros slot) (drop at t) t (run_text run) first (omega arith) num.bytes (text-run b) in
-    let l : HostList = record { slot = Into slot; listed = unplaced p.0; run = run } in
+    let l : HostList = record { slot = Some slot; listed = unplaced p.0; run = run } in
     spelled_as b l m
     (subst (λ (x : List ℕ). Spells l x) bytes (spells run (into slot num.zeros (slot-few t slot at k.number)) w.0))
     (rw (k.in-range, w.1, p.2))
 
 -- a fault has a code, so what has none was taken
-pub taken-spelled : (b : List ℕ) → body_of b ≡ Body.Line → taken_code (line_of b) ≡ 0 → Spelled b
+pub taken-spelled : (b : List ℕ) → body_of b ≡ Ok Body.Line → taken_code (line_of b) ≡ 0 → Spelled b
 unfolding line_of one_of
 taken-spelled b f e = go (line_of b) refl (taken-code (text_of b) (ends_with_r b)) e
   where
-    go : (x : Taken) → line_of b ≡ x → TakenCode x → taken_code x ≡ 0 → Spelled b
-    go (Taken.Refused x) q h k = let y = rw k at h in no (cc)
-    go (Taken.Line n r) q h k = line-spelled b n r (line-short b f) q
-    go (Taken.Store slot at n) q h k = store-spelled b slot at n (line-short b f) q
+    go : (x : Result Taken Fault) → line_of b ≡ x → TakenCode x → taken_code x ≡ 0 → Spelled b
+    go (Err x) q h k = let y = rw k at h in no (cc)
+    go (Ok (Taken.Line n r)) q h k = line-spelled b n r (line-short b f) q
+    go (Ok (Taken.Store slot at n)) q h k = store-spelled b slot at n (line-short b f) q
 
 -- ---- what reads as a list spells it
 
 -- bytes that are the same are one list
 -- the bytes of a body that is nothing, or `R` alone
-abbrev Alone : List ℕ → Body → Type 0
-Alone b (Body.Refused f) = Unit
-Alone b Body.Empty = b ≡ []
-Alone b (Body.Immediate i) = Unit
-Alone b Body.Run = b ≡ 82 ∷ []
-Alone b Body.Again = Unit
-Alone b Body.Line = Unit
+abbrev Alone : List ℕ → Result Body Fault → Type 0
+Alone b (Err f) = Unit
+Alone b (Ok Body.Empty) = b ≡ []
+Alone b (Ok (Body.Immediate i)) = Unit
+Alone b (Ok Body.Run) = b ≡ 82 ∷ []
+Alone b (Ok Body.Again) = Unit
+Alone b (Ok Body.Line) = Unit
 
 immediate-alone : (b : List ℕ) (rs : List ImmediateRow) → Alone b (immediate_in rs b)
 unfolding immediate_in
@@ -175,9 +176,9 @@ unfolding list_of list_fault structured all_in_range
 reads-spelled b l e = go (body_of b) refl (alone b) e
   where
     -- nothing, or `R` alone
-    empty : (run : Bool) → b ≡ run_text run → list (record { slot = NoSlot; listed = []; run = run }) ≡ list l → SpelledAs l b
+    empty : (run : Bool) → b ≡ run_text run → list (record { slot = None; listed = []; run = run }) ≡ list l → SpelledAs l b
     empty run q k =
-        let m : HostList = record { slot = NoSlot; listed = []; run = run } in
+        let m : HostList = record { slot = None; listed = []; run = run } in
         let same : m ≡ l = cc in
         rw (← same, q) (record { short = small run; spells = spells run without none; no_fault_lem = refl })
       where
@@ -191,15 +192,15 @@ reads-spelled b l e = go (body_of b) refl (alone b) e
         let same : w.means ≡ l = cc in
         rw (← same) w.spelled
 
-    line : (x : Taken) → line_of b ≡ x → body_of b ≡ Body.Line → taken_list x b ≡ list l → SpelledAs l b
-    line (Taken.Refused f) q h k = no (cc)
-    line (Taken.Line n r) q h k = as_means e (line-spelled b n r (line-short b h) q)
-    line (Taken.Store slot at n) q h k = as_means e (store-spelled b slot at n (line-short b h) q)
+    line : (x : Result Taken Fault) → line_of b ≡ x → body_of b ≡ Ok Body.Line → taken_list x b ≡ list l → SpelledAs l b
+    line (Err f) q h k = no (cc)
+    line (Ok (Taken.Line n r)) q h k = as_means e (line-spelled b n r (line-short b h) q)
+    line (Ok (Taken.Store slot at n)) q h k = as_means e (store-spelled b slot at n (line-short b h) q)
 
-    go : (x : Body) → body_of b ≡ x → Alone b x → body_list x b ≡ list l → SpelledAs l b
-    go (Body.Refused f) q a k = no (cc)
-    go Body.Empty q a k = empty false a k
-    go (Body.Immediate i) q a k = no (cc)
-    go Body.Run q a k = empty true a k
-    go Body.Again q a k = no (cc)
-    go Body.Line q a k = line (line_of b) refl q k
+    go : (x : Result Body Fault) → body_of b ≡ x → Alone b x → body_list x b ≡ list l → SpelledAs l b
+    go (Err f) q a k = no (cc)
+    go (Ok Body.Empty) q a k = empty false a k
+    go (Ok (Body.Immediate i)) q a k = no (cc)
+    go (Ok Body.Run) q a k = empty true a k
+    go (Ok Body.Again) q a k = no (cc)
+    go (Ok Body.Line) q a k = line (line_of b) refl q k

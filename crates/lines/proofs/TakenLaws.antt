@@ -1,4 +1,6 @@
 -- What is known of a line that is taken, and of a text that it stores: each test on the way was passed. Assumes nothing.
+use Rattle.std.specs.Prelude.{Ok, Err}
+use Rattle.lines.specs.Texts.{Judged}
 use Prim.Native.Nat.{ℕ, zero, suc, ◌-◌, ◌≤◌, ◌<◌}
 use mathlib.Core.Path.{◌≡◌, refl, sym, ap, ◌∙◌}
 use mathlib.Core.List.{List, [], ◌∷◌, ◌++◌, append-nil, append_assoc}
@@ -18,8 +20,6 @@ use Rattle.commands.specs.Table.{one_of}
 use Rattle.commands.specs.Reading.{bad_operand}
 use Rattle.lines.specs.declared.Body.{Body}
 use Rattle.lines.specs.declared.Taken.{Taken}
-use Rattle.lines.specs.declared.Judged.{Judged}
-use Rattle.lines.specs.declared.Judged.TheVariants.{Passes, Refused}
 use Rattle.lines.specs.Texts.{unplaced, storable, line_judged, stored_judged, passed, text_good_by, text_good}
 use Rattle.lines.specs.Bodies.{body_of, ends_with_r, text_end, taken, behind, most_slot, stored_at, store_of, taken_of, line_of}
 use Rattle.lines.specs.Lists.{run_text}
@@ -54,7 +54,7 @@ text-run b = go (eqb (get_or b (length b - 1) 0) 82) refl
 
 pub record LineTaken (t : List ℕ) (run : Bool) (n : ℕ) (r : Bool) : Type 0 where
   pub no_store : eqb (get_or t 0 0) 115 ≡ false
-  pub passes : line_judged t ≡ Passes
+  pub passes : line_judged t ≡ Ok tt
   pub all : n ≡ length t
   pub runs : r ≡ run
 
@@ -62,7 +62,7 @@ pub record StoreTaken (t : List ℕ) (run : Bool) (slot at n : ℕ) : Type 0 whe
   pub store : eqb (get_or t 0 0) 115 ≡ true
   pub number : operand_up_to operand_most t 1 ≡ Number slot at
   pub in-range : leb slot most_slot ≡ true
-  pub passes : stored_judged run (drop at t) ≡ Passes
+  pub passes : stored_judged run (drop at t) ≡ Ok tt
   pub runs : run ≡ true
   pub all : n ≡ length t - at
 
@@ -70,55 +70,55 @@ pub record StoreTaken (t : List ℕ) (run : Bool) (slot at n : ℕ) : Type 0 whe
 pub no : {A : Type 0} → ◌≡◌ {A = ℕ} 0 1 → A
 no z = absurd (omega arith)
 
-is_line : (j : Judged) (n m : ℕ) (r run : Bool) → taken j (Taken.Line m run) ≡ Taken.Line n r → (j ≡ Passes) × (n ≡ m) × (r ≡ run)
-is_line Passes n m r run e = (refl, cc, cc)
-is_line (Refused f) n m r run e = no (cc)
+is_line : (j : Judged) (n m : ℕ) (r run : Bool) → taken j (Taken.Line m run) ≡ Ok (Taken.Line n r) → (j ≡ Ok tt) × (n ≡ m) × (r ≡ run)
+is_line (Ok u) n m r run e = (refl, cc, cc)
+is_line (Err f) n m r run e = no (cc)
 
-not-store : (j : Judged) (m : ℕ) (run : Bool) (slot at n : ℕ) → taken j (Taken.Line m run) ≡ Taken.Store slot at n → ◌≡◌ {A = ℕ} 0 1
-not-store Passes m run slot at n e = cc
-not-store (Refused f) m run slot at n e = cc
+not-store : (j : Judged) (m : ℕ) (run : Bool) (slot at n : ℕ) → taken j (Taken.Line m run) ≡ Ok (Taken.Store slot at n) → ◌≡◌ {A = ℕ} 0 1
+not-store (Ok u) m run slot at n e = cc
+not-store (Err f) m run slot at n e = cc
 
-is_store : (k : ℕ) (j : Judged) (slot at n slot' at' n' : ℕ) → taken (behind k j) (Taken.Store slot' at' n') ≡ Taken.Store slot at n
-    → (j ≡ Passes) × (slot ≡ slot') × (at ≡ at') × (n ≡ n')
-is_store k Passes slot at n slot' at' n' e = (refl, cc, cc, cc)
-is_store k (Refused f) slot at n slot' at' n' e = no (cc)
+is_store : (k : ℕ) (j : Judged) (slot at n slot' at' n' : ℕ) → taken (behind k j) (Taken.Store slot' at' n') ≡ Ok (Taken.Store slot at n)
+    → (j ≡ Ok tt) × (slot ≡ slot') × (at ≡ at') × (n ≡ n')
+is_store k (Ok u) slot at n slot' at' n' e = (refl, cc, cc, cc)
+is_store k (Err f) slot at n slot' at' n' e = no (cc)
 
 -- what passes as a store has its `R`
-runs : (run : Bool) (t : List ℕ) → stored_judged run t ≡ Passes → run ≡ true
+runs : (run : Bool) (t : List ℕ) → stored_judged run t ≡ Ok tt → run ≡ true
 runs run t e = let p = stored-passes run t e in ((and-eq-true_iff (storable (unplaced p.0)) run).0 p.2).1
 
-not_line : (j : Judged) (slot at m n : ℕ) (r : Bool) → taken j (Taken.Store slot at m) ≡ Taken.Line n r → ◌≡◌ {A = ℕ} 0 1
-not_line Passes slot at m n r e = cc
-not_line (Refused f) slot at m n r e = cc
+not_line : (j : Judged) (slot at m n : ℕ) (r : Bool) → taken j (Taken.Store slot at m) ≡ Ok (Taken.Line n r) → ◌≡◌ {A = ℕ} 0 1
+not_line (Ok u) slot at m n r e = cc
+not_line (Err f) slot at m n r e = cc
 
-pub line-tested : (t : List ℕ) (run : Bool) (n : ℕ) (r : Bool) → taken_of t run ≡ Taken.Line n r → LineTaken t run n r
+pub line-tested : (t : List ℕ) (run : Bool) (n : ℕ) (r : Bool) → taken_of t run ≡ Ok (Taken.Line n r) → LineTaken t run n r
 unfolding taken_of
 line-tested t run n r e = go (eqb (get_or t 0 0) 115) refl e
   where
-    store : (o : Operand) → store_of o t run ≡ Taken.Line n r → ◌≡◌ {A = ℕ} 0 1
+    store : (o : Operand) → store_of o t run ≡ Ok (Taken.Line n r) → ◌≡◌ {A = ℕ} 0 1
     store Missing k = cc
     store (Above next) k = cc
     store (Number slot at) k = slots (leb slot most_slot) k
       where
-        slots : (b : Bool) → cond b (stored_at slot at t run) (Taken.Refused (bad_operand 1)) ≡ Taken.Line n r → ◌≡◌ {A = ℕ} 0 1
+        slots : (b : Bool) → cond b (stored_at slot at t run) (Err (bad_operand 1)) ≡ Ok (Taken.Line n r) → ◌≡◌ {A = ℕ} 0 1
         slots true k = not_line (behind at (stored_judged run (drop at t))) slot at (length t - at) n r k
         slots false k = cc
 
-    go : (b : Bool) → eqb (get_or t 0 0) 115 ≡ b → cond b (store_of (operand_up_to operand_most t 1) t run) (taken (line_judged t) (Taken.Line (length t) run)) ≡ Taken.Line n r
+    go : (b : Bool) → eqb (get_or t 0 0) 115 ≡ b → cond b (store_of (operand_up_to operand_most t 1) t run) (taken (line_judged t) (Taken.Line (length t) run)) ≡ Ok (Taken.Line n r)
         → LineTaken t run n r
     go true q k = no (store (operand_up_to operand_most t 1) k)
     go false q k = let w = is_line (line_judged t) n (length t) r run k in record { no_store = q; passes = w.0; all = w.1; runs = w.2 }
 
-pub store-tested : (t : List ℕ) (run : Bool) (slot at n : ℕ) → taken_of t run ≡ Taken.Store slot at n → StoreTaken t run slot at n
+pub store-tested : (t : List ℕ) (run : Bool) (slot at n : ℕ) → taken_of t run ≡ Ok (Taken.Store slot at n) → StoreTaken t run slot at n
 unfolding taken_of
 store-tested t run slot at n e = go (eqb (get_or t 0 0) 115) refl e
   where
-    store : eqb (get_or t 0 0) 115 ≡ true → (o : Operand) → operand_up_to operand_most t 1 ≡ o → store_of o t run ≡ Taken.Store slot at n → StoreTaken t run slot at n
+    store : eqb (get_or t 0 0) 115 ≡ true → (o : Operand) → operand_up_to operand_most t 1 ≡ o → store_of o t run ≡ Ok (Taken.Store slot at n) → StoreTaken t run slot at n
     store q Missing w k = no (cc)
     store q (Above next) w k = no (cc)
     store q (Number slot' at') w k = slots (leb slot' most_slot) refl k
       where
-        slots : (b : Bool) → leb slot' most_slot ≡ b → cond b (stored_at slot' at' t run) (Taken.Refused (bad_operand 1)) ≡ Taken.Store slot at n → StoreTaken t run slot at n
+        slots : (b : Bool) → leb slot' most_slot ≡ b → cond b (stored_at slot' at' t run) (Err (bad_operand 1)) ≡ Ok (Taken.Store slot at n) → StoreTaken t run slot at n
         slots true h k =
             let x = is_store at' (stored_judged run (drop at' t)) slot at n slot' at' (length t - at') k in
             record {
@@ -131,7 +131,7 @@ store-tested t run slot at n e = go (eqb (get_or t 0 0) 115) refl e
             }
         slots false h k = no (cc)
 
-    go : (b : Bool) → eqb (get_or t 0 0) 115 ≡ b → cond b (store_of (operand_up_to operand_most t 1) t run) (taken (line_judged t) (Taken.Line (length t) run)) ≡ Taken.Store slot at n
+    go : (b : Bool) → eqb (get_or t 0 0) 115 ≡ b → cond b (store_of (operand_up_to operand_most t 1) t run) (taken (line_judged t) (Taken.Line (length t) run)) ≡ Ok (Taken.Store slot at n)
         → StoreTaken t run slot at n
     go true q k = store q (operand_up_to operand_most t 1) refl k
     go false q k = no (not-store (line_judged t) (length t) run slot at n k)
@@ -157,7 +157,7 @@ store_bytes b digits text t r first some bytes whole =
     let head : t ≡ 115 ∷ (digits ++ text) = drop-cons t 0 0 some ∙ rw (first, bytes) in
     sym (append_assoc (115 ∷ digits) text r) ∙ ap (λ (x : List ℕ). x ++ r) (sym head) ∙ sym whole
 
-pub stored : (b : List ℕ) (slot at n : ℕ) → line_of b ≡ Taken.Store slot at n → length b ≤ most_bytes → StoredFrom b slot at n
+pub stored : (b : List ℕ) (slot at n : ℕ) → line_of b ≡ Ok (Taken.Store slot at n) → length b ≤ most_bytes → StoredFrom b slot at n
 unfolding line_of text_good_by
 stored b slot at n e m =
     let t : List ℕ = text_of b in
@@ -183,11 +183,11 @@ pub text-checked : (t : List ℕ) → text_good t ≡ true → Checked t
 unfolding text_good_by
 text-checked t e = stored-checked true t (go (stored_judged true t) ((and-eq-true_iff (leb (length t) most_bytes) (passed (stored_judged true t))).0 e).1)
   where
-    go : (j : Judged) → passed j ≡ true → j ≡ Passes
-    go Passes k = refl
-    go (Refused f) k = no (cc)
+    go : (j : Judged) → passed j ≡ true → j ≡ Ok tt
+    go (Ok u) k = refl
+    go (Err f) k = no (cc)
 
-pub held : (b : List ℕ) (n : ℕ) (run : Bool) → line_of b ≡ Taken.Line n run → TakenFrom b n run
+pub held : (b : List ℕ) (n : ℕ) (run : Bool) → line_of b ≡ Ok (Taken.Line n run) → TakenFrom b n run
 unfolding line_of
 held b n run e =
     let k = line-tested (text_of b) (ends_with_r b) n run e in
@@ -200,12 +200,12 @@ held b n run e =
     }
 
 -- `R` alone and nothing are no lines
-alone_no_line : (run : Bool) → body_of (run_text run) ≡ Body.Line → ◌≡◌ {A = ℕ} 0 1
+alone_no_line : (run : Bool) → body_of (run_text run) ≡ Ok Body.Line → ◌≡◌ {A = ℕ} 0 1
 unfolding body_of one_of same
 alone_no_line true e = cc
 alone_no_line false e = cc
 
-pub one-or-more : (b : List ℕ) (n : ℕ) (run : Bool) → body_of b ≡ Body.Line → line_of b ≡ Taken.Line n run → 1 ≤ n
+pub one-or-more : (b : List ℕ) (n : ℕ) (run : Bool) → body_of b ≡ Ok Body.Line → line_of b ≡ Ok (Taken.Line n run) → 1 ≤ n
 unfolding line_of
 one-or-more b n run f e = go (text_of b) refl (line-tested (text_of b) (ends_with_r b) n run e).all
   where

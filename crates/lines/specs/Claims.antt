@@ -1,6 +1,6 @@
 -- What is claimed of lines: which are taken, said of lists of commands and not by reading bytes; and what a taken text has.
 -- 01, "Lines", "The host's list", "Structure". Assumes nothing.
-use Rattle.std.specs.Prelude.{ℕ, ◌+◌, ◌-◌, ◌≤◌, ◌<◌, List, [], ◌∷◌, ◌++◌, Bool, true, false, cond, ◌&&◌, ◌↔◌, ◌≡◌, length, get_or, take}
+use Rattle.std.specs.Prelude.{ℕ, ◌+◌, ◌-◌, ◌≤◌, ◌<◌, List, [], ◌∷◌, ◌++◌, Bool, true, false, cond, ◌&&◌, ◌↔◌, ◌≡◌, length, get_or, take, Ok, Err}
 use Rattle.parts.specs.Parts.{part, most_bytes}
 use Rattle.parts.specs.Letters.{byte, bytes}
 use Rattle.commands.specs.declared.Command.{Command}
@@ -85,9 +85,9 @@ pub record LineClaims : Type 0 where
   pub spelled-taken : {l : HostList} {b : List ℕ} → SpelledAs l b → (line_code_lem b ≡ 0) × (list_of b ≡ list l)
   -- nothing else reads as a list, and what is taken as a line or a store reads as one: no line is taken that 01 refuses
   pub reads-spelled : (b : List ℕ) (l : HostList) → list_of b ≡ list l → SpelledAs l b
-  pub taken-spelled : (b : List ℕ) → body_of b ≡ Body.Line → taken_code (line_of b) ≡ 0 → Spelled b
+  pub taken-spelled : (b : List ℕ) → body_of b ≡ Ok Body.Line → taken_code (line_of b) ≡ 0 → Spelled b
   -- 02, E9: what is taken has no run of more than ten digits, in its slot neither, and what is checked has none
-  pub taken-few : (b : List ℕ) → body_of b ≡ Body.Line → taken_code (line_of b) ≡ 0 → few_digits operand_most b ≡ true
+  pub taken-few : (b : List ℕ) → body_of b ≡ Ok Body.Line → taken_code (line_of b) ≡ 0 → few_digits operand_most b ≡ true
   pub checked-few : (t : List ℕ) → Checked t → few_digits operand_most t ≡ true
   -- "also in stored text": that, and nothing else, is new; the older reading has no limit, since a greater one reads the same
   pub good-now : (t : List ℕ) → text_good t ≡ older_good t && few_digits operand_most t
@@ -109,14 +109,14 @@ pub record LineClaims : Type 0 where
   pub place-most : (b : List ℕ) → (line_fault b).place ≤ most_bytes + 1
   pub over-long : (b : List ℕ) → most_bytes < length b → line_fault b ≡ fault 2 0
   -- a refused line has one of three reasons; what stands before a fault of the reading is good up to structure
-  pub because : (b : List ℕ) (f : Fault) → body_of b ≡ Body.Line → line_of b ≡ Taken.Refused f → Because b f
+  pub because : (b : List ℕ) (f : Fault) → body_of b ≡ Ok Body.Line → line_of b ≡ Err f → Because b f
   -- what is stored may be stored, and may run
-  pub stored : (b : List ℕ) (slot at n : ℕ) → line_of b ≡ Taken.Store slot at n → length b ≤ most_bytes
+  pub stored : (b : List ℕ) (slot at n : ℕ) → line_of b ≡ Ok (Taken.Store slot at n) → length b ≤ most_bytes
       → StoredFrom b slot at n
   pub stored-checked : (t : List ℕ) → text_good t ≡ true → Checked t
   -- "its commands, one or more, become the current text"
-  pub held : (b : List ℕ) (n : ℕ) (run : Bool) → line_of b ≡ Taken.Line n run → TakenFrom b n run
-  pub one-or-more : (b : List ℕ) (n : ℕ) (run : Bool) → body_of b ≡ Body.Line → line_of b ≡ Taken.Line n run → 1 ≤ n
+  pub held : (b : List ℕ) (n : ℕ) (run : Bool) → line_of b ≡ Ok (Taken.Line n run) → TakenFrom b n run
+  pub one-or-more : (b : List ℕ) (n : ℕ) (run : Bool) → body_of b ≡ Ok Body.Line → line_of b ≡ Ok (Taken.Line n run) → 1 ≤ n
   -- each place of a checked text: no fault, no fifth loop, no `G` without its `g`, no `S` before one, all closed at the end
   pub lawful : {t : List ℕ} {at : ℕ} {starts : List ℕ} → Checked t → Enclosed t at starts
       → Lawful t (length starts) (read_at t at)

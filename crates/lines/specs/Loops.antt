@@ -1,12 +1,11 @@
 -- The loops that enclose a place of a text. 01, "Structure", "G n", and demand 3.
 -- Assumes nothing.
-use Rattle.std.specs.Prelude.{ℕ, zero, suc, ◌<◌, List, [], ◌∷◌, cond, ◌≡◌, eqb}
+use Rattle.std.specs.Prelude.{ℕ, zero, suc, ◌<◌, List, [], ◌∷◌, cond, ◌≡◌, eqb, Ok}
 use Rattle.commands.specs.declared.Command.{Command}
 use Rattle.commands.specs.declared.Command.TheVariants.{LoopBegin, LoopEnd, Skip, Jump, Plain}
 use Rattle.commands.specs.declared.Read.{Read}
 use Rattle.commands.specs.declared.Read.TheVariants.{At, Bad, End}
 use Rattle.commands.specs.Reading.{read_at}
-use Rattle.lines.specs.declared.Judged.TheVariants.{Passes}
 use Rattle.lines.specs.Texts.{line_judged, most_open, rest}
 
 -- the starts of the open loops, innermost first, behind a command whose next place is n: "each `G` closes the nearest open `g`"
@@ -37,7 +36,7 @@ enclosing t to = scan_to to t to 0 []
 
 -- a text that passed the check of lines; stored text passes it too
 abbrev pub Checked : List ℕ → Type 0
-Checked t = line_judged t ≡ Passes
+Checked t = line_judged t ≡ Ok tt
 
 -- "`S` is neither last nor directly before `g` or `G`": what may stand behind a skip
 abbrev pub Skippable : Read → Type 0

@@ -20,19 +20,17 @@ fn main(rt: HostRuntime) -> io::Result<()> {
             return eprintln!(rt; "listen: standard input cannot be read");
         };
         if n == 0 {
-            let table = l.table;
-            return print_all(&rt, table);
+            return print_all(&rt, &l.table);
         }
-        let next = listening::listen(l, &chunk[..n]);
-        l = next;
+        l = listening::listen(l, &chunk[..n]);
     }
     Ok(())
 }
 
 // A line for each unit, in rising order.
-fn print_all(rt: &impl Print, table: [UnitRecord; 16]) -> io::Result<()> {
-    for i in 0..16usize {
-        print_one(rt, i as u8 + 1, table[i])?;
+fn print_all(rt: &impl Print, table: &[UnitRecord]) -> io::Result<()> {
+    for (unit, record) in (1u8..=16).zip(table) {
+        print_one(rt, unit, *record)?;
     }
     Ok(())
 }

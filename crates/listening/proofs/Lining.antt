@@ -1,5 +1,6 @@
 -- Laws of a line that is made piece by piece: what a writer leaves is the line with its text behind it, and texts that fit make the whole.
 -- Assumes nothing.
+use Rattle.std.specs.Prelude.{Option, Some, None}
 use Prim.Native.Nat.{ℕ, ◌+◌, ◌≤◌, ◌<◌, zero-le}
 use mathlib.Core.Path.{◌≡◌, refl, sym, ap, ◌∙◌}
 use mathlib.Core.Bool.{Bool, true, false, cond}
@@ -12,11 +13,7 @@ use Rattle.parts.specs.Letters.{bytes}
 use Rattle.parts.proofs.Laws.{put-more, put_in_room, put-zeros, length-padded}
 use Rattle.digits.specs.Operand.{widest}
 use Rattle.digits.specs.Decimal.{decimal, WrittenIs}
-use Rattle.digits.specs.declared.Written.{Written}
-use Rattle.digits.specs.declared.Written.TheVariants.{Past, NoRoom}
 use Rattle.digits.proofs.Writing.{length_most, length-ten}
-use Rattle.listening.specs.declared.LastStatus.{LastStatus}
-use Rattle.listening.specs.declared.LastStatus.TheVariants.{Never, Status}
 use Rattle.listening.specs.declared.UnitRecord.{UnitRecord}
 use Rattle.listening.specs.declared.Line.{Line}
 use Rattle.listening.specs.Lines.{status_text, unit_line, line_bytes, line_with}
@@ -24,23 +21,23 @@ use Rattle.listening.specs.Pieces.{added, added_each}
 
 -- ---- what a writer leaves
 
-module _ (l : Line) (s : List ℕ) {answer : Written} {after : List ℕ} (w : WrittenIs l.bytes l.length s answer after) where
-  pub written-added : {m : ℕ} → answer ≡ Past m → ◌≡◌ {A = Line} (record { bytes = after; length = m }) (added l s)
+module _ (l : Line) (s : List ℕ) {answer : Option ℕ} {after : List ℕ} (w : WrittenIs l.bytes l.length s answer after) where
+  pub written-added : {m : ℕ} → answer ≡ Some m → ◌≡◌ {A = Line} (record { bytes = after; length = m }) (added l s)
   unfolding added
   written-added {m} told = go (fits_at l.bytes l.length (length s)) refl (sym told ∙ w.answers)
     where
-      go : (b : Bool) → fits_at l.bytes l.length (length s) ≡ b → Past m ≡ cond b (Past (l.length + length s)) NoRoom
+      go : (b : Bool) → fits_at l.bytes l.length (length s) ≡ b → Some m ≡ cond b (Some (l.length + length s)) None
           → ◌≡◌ {A = Line} (record { bytes = after; length = m }) (cond b (record { bytes = put l.bytes l.length s; length = l.length + length s }) l)
       go true e k =
           let long : m ≡ l.length + length s = cc in
           rw (long, w.leaves, put_in_room l.bytes l.length s (leb-true _ _ e))
       go false e k = let z : ◌≡◌ {A = ℕ} 0 1 = cc in absurd (omega arith)
 
-  pub refused-same : answer ≡ NoRoom → l ≡ added l s
+  pub refused-same : answer ≡ None → l ≡ added l s
   unfolding added
   refused-same told = go (fits_at l.bytes l.length (length s)) (sym told ∙ w.answers)
     where
-      go : (b : Bool) → NoRoom ≡ cond b (Past (l.length + length s)) NoRoom
+      go : (b : Bool) → None ≡ cond b (Some (l.length + length s)) None
           → l ≡ cond b (record { bytes = put l.bytes l.length s; length = l.length + length s }) l
       go true k = let z : ◌≡◌ {A = ℕ} 0 1 = cc in absurd (omega arith)
       go false k = refl
@@ -88,9 +85,9 @@ each_more l t (b ∷ bs) e h =
     let long : length (t ++ (b ∷ [])) ≡ length t + 1 = length-append t (b ∷ []) in
     each_more (added l (b ∷ [])) (t ++ (b ∷ [])) bs one.is (omega arith) ∙ ap line_with (append_assoc t (b ∷ []) bs)
 
-status-length : (last : LastStatus) → length (status_text last) ≡ 2
-status-length Never = refl
-status-length (Status s) = refl
+status-length : (last : Option ℕ) → length (status_text last) ≡ 2
+status-length None = refl
+status-length (Some s) = refl
 
 -- 28 zeros, and none of them counts
 abbrev no_text : Line

@@ -1,33 +1,27 @@
--- Bytes by their tests: whom an address calls, and the room for one more byte of data.
+-- The room for one more byte of data.
 -- Assumes nothing.
-use Prim.Native.Nat.{ℕ, ◌-◌, ◌<◌, ◌≤◌}
+use Prim.Native.Nat.{ℕ, ◌+◌, ◌<◌, min}
 use native.Mathlib.Omega.{arith}
-use mathlib.Core.Path.{◌≡◌}
-use mathlib.Core.Bool.{true, and-eq-true_iff}
-use lib.Dec.{ltb}
-use borrow.Author.Tests.{le-leb, lt-leb, ltb-true}
+use mathlib.Core.Path.{◌≡◌, refl, ap}
+use mathlib.Core.Bool.{Bool, true, false, cond, and-eq-true_iff}
+use lib.Dec.{ltb, eqb}
+use borrow.Author.Tests.{ltb-true}
 use Rattle.answers.specs.Reading.{printable}
 use Rattle.answers.specs.Packet.{most_data}
-use Rattle.listening.specs.declared.Finish.{Finish}
-use Rattle.listening.specs.Listen.{alone_of, may_follow}
-
-pub alone-low : (a : ℕ) → a < 0x31 → Finish.Nothing ≡ alone_of a
-unfolding alone_of
-alone-low a h = let low : a - 48 < 1 = omega (arith, h) in simp (lt-leb 1 (a - 48) low)
-
-pub alone-high : (a : ℕ) → 0x40 < a → Finish.Nothing ≡ alone_of a
-unfolding alone_of
-alone-high a h =
-    let one : 1 ≤ a - 48 = omega (arith, h) in
-    let high : 16 < a - 48 = omega (arith, h) in simp (le-leb 1 (a - 48) one, lt-leb (a - 48) 16 high)
-
-pub alone-unit : (a : ℕ) → 0x31 ≤ a → a ≤ 0x40 → Finish.FrameTo (a - 48) ≡ alone_of a
-unfolding alone_of
-alone-unit a l h =
-    let one : 1 ≤ a - 48 = omega (arith, l) in
-    let most : a - 48 ≤ 16 = omega (arith, h) in simp (le-leb 1 (a - 48) one, le-leb (a - 48) 16 most)
+use Rattle.parts.specs.Letters.{etx}
+use Rattle.listening.specs.declared.Spot.{Spot}
+use Rattle.listening.specs.Listen.{may_follow}
 
 -- one byte of data more stays within 256
 pub room : (n b : ℕ) → may_follow n b ≡ true → n < most_data
 unfolding may_follow
 room n b e = ltb-true n most_data ((and-eq-true_iff (ltb n most_data) (printable b)).0 e).0
+
+-- one byte of data more counts, and the top of 16 bits is far
+pub one_more_data : (F : ℕ → Spot) (n b : ℕ) (end other : Spot) {m : ℕ} → m ≡ min (n + 1) 65535
+    → cond (eqb b etx) end (cond (may_follow n b) (F m) other) ≡ cond (eqb b etx) end (cond (may_follow n b) (F (n + 1)) other)
+one_more_data F n b end other {m} e = ap (λ (k : Spot). cond (eqb b etx) end k) (go (may_follow n b) refl)
+  where
+    go : (t : Bool) → may_follow n b ≡ t → cond t (F m) other ≡ cond t (F (n + 1)) other
+    go true q = let l = room n b q in let near : m ≡ n + 1 = omega arith in ap F near
+    go false q = refl

@@ -23,7 +23,7 @@ use Rattle.answers.specs.Packet.{host_address, most_data}
 use Rattle.answers.specs.Reading.{good_status, good_data, printable, all_printable}
 use Rattle.answers.specs.Oem.{oem_sum, oem_tail, oem_packet}
 use Rattle.answers.proofs.OemLaws.{sum_made}
-use Rattle.listening.specs.declared.LastStatus.TheVariants.{Status}
+use Rattle.std.specs.Prelude.{Some}
 use Rattle.listening.specs.declared.UnitRecord.{UnitRecord}
 use Rattle.listening.specs.declared.Finish.{Finish}
 use Rattle.listening.specs.declared.Spot.{Spot}
@@ -361,7 +361,7 @@ record Ends (u : ℕ) (xs : List ℕ) (r : UnitRecord) : Type 0 where
   belongs : LastFrameTo u xs
   status : ℕ
   ends : EndsInAnswer status xs
-  last : r.last ≡ Status status
+  last : r.last ≡ Some status
 
 -- what the finishing byte tells of the record of unit u
 told_of : (u unit : ℕ) (xs : List ℕ) (t : List UnitRecord) (f : Finish) → is_unit u ≡ true → length t ≡ 16 → Told xs unit f → Owner (unit_after f unit) xs

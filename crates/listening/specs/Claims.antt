@@ -1,6 +1,6 @@
 -- 02, E10, as statements about every listener and all bytes: `listening_claims` promises them.
 -- Assumes nothing.
-use Rattle.std.specs.Prelude.{ℕ, ◌+◌, ◌-◌, ◌≤◌, ◌<◌, ◌≡◌, Bool, true, false, cond, ◌⊎◌, List, [], ◌∷◌, ◌++◌, ltb, length, get_or, replicate}
+use Rattle.std.specs.Prelude.{ℕ, ◌+◌, ◌-◌, ◌≤◌, ◌<◌, ◌≡◌, Bool, true, false, cond, ◌⊎◌, List, [], ◌∷◌, ◌++◌, ltb, length, get_or, replicate, Option, Some, None}
 use Rattle.parts.specs.Letters.{bytes, slash, cr, etx}
 use Rattle.checksum.specs.Checksum.{example₁}
 use Rattle.frames.specs.declared.Frame.{Frame}
@@ -9,8 +9,6 @@ use Rattle.frames.specs.Receive.{Receiver, receiver_of, fresh_progress, byte_rec
 use Rattle.answers.specs.Packet.{host_address, packet}
 use Rattle.answers.specs.Reading.{good_status, good_data}
 use Rattle.answers.specs.Oem.{oem_packet}
-use Rattle.listening.specs.declared.LastStatus.{LastStatus}
-use Rattle.listening.specs.declared.LastStatus.TheVariants.{Never, Status}
 use Rattle.listening.specs.declared.UnitRecord.{UnitRecord}
 use Rattle.listening.specs.declared.Spot.{Spot}
 use Rattle.listening.specs.declared.Listener.{Listener}
@@ -63,7 +61,7 @@ to_cr status xs = slash ∷ host_address ∷ status ∷ (xs ++ (etx ∷ cr ∷ [
 -- one answer more of unit u, with this status; all else as it was
 pub record AnswerHeard (u status : ℕ) (t after : List UnitRecord) : Type 0 where
   pub answers : (of_unit u t).answers < 4294967295 → (of_unit u after).answers ≡ (of_unit u t).answers + 1
-  pub last : (of_unit u after).last ≡ Status status
+  pub last : (of_unit u after).last ≡ Some status
   pub frames : (of_unit u after).frames ≡ (of_unit u t).frames
   pub others : (k : ℕ) → (k ≡ u - 1 → ⊥) → get_or after k blank_record ≡ get_or t k blank_record
 
@@ -104,10 +102,10 @@ pub record AnswerEnds (u : ℕ) (xs : List ℕ) : Type 0 where
   pub belongs : LastFrameTo u xs
   pub status : ℕ
   pub ends : EndsInAnswer status xs
-  pub last : (of_unit u (table_after xs)).last ≡ Status status
+  pub last : (of_unit u (table_after xs)).last ≡ Some status
 
 -- the tables of the examples
-abbrev pub heard_of : ℕ → ℕ → LastStatus → UnitRecord
+abbrev pub heard_of : ℕ → ℕ → Option ℕ → UnitRecord
 heard_of frames answers last = record { frames = frames; answers = answers; last = last }
 
 abbrev pub blanks : ℕ → List UnitRecord
@@ -116,25 +114,25 @@ blanks n = replicate n blank_record
 pub record HeardExamples : Type 0 where
   -- "For an input of `/1Q`, CR and the bytes 2F 30 60 03 0D 0A the first line is `1 1 1 60` .."
   pub first : table_after (bytes "/1Q" ++ (cr ∷ 0x2F ∷ 0x30 ∷ 0x60 ∷ 0x03 ∷ 0x0D ∷ 0x0A ∷ []))
-      ≡ heard_of 1 1 (Status 0x60) ∷ blanks 15
+      ≡ heard_of 1 1 (Some 0x60) ∷ blanks 15
   -- "with none before it, it is dropped"
   pub dropped : table_after (0x2F ∷ 0x30 ∷ 0x60 ∷ 0x03 ∷ 0x0D ∷ 0x0A ∷ []) ≡ blanks 16
   -- "Group frames count for nobody", and an answer behind one belongs to the frame before
   pub group : table_after (bytes "/2Q" ++ (cr ∷ []) ++ bytes "/AQ" ++ (cr ∷ 0x2F ∷ 0x30 ∷ 0x60 ∷ 0x03 ∷ 0x0D ∷ []))
-      ≡ blank_record ∷ heard_of 1 1 (Status 0x60) ∷ blanks 14
+      ≡ blank_record ∷ heard_of 1 1 (Some 0x60) ∷ blanks 14
   -- the answer counts at its CR
-  pub before-cr : table_after (bytes "/1Q" ++ (cr ∷ 0x2F ∷ 0x30 ∷ 0x60 ∷ 0x03 ∷ [])) ≡ heard_of 1 0 Never ∷ blanks 15
+  pub before-cr : table_after (bytes "/1Q" ++ (cr ∷ 0x2F ∷ 0x30 ∷ 0x60 ∷ 0x03 ∷ [])) ≡ heard_of 1 0 None ∷ blanks 15
   -- 004's first OEM frame and an OEM answer; the same with a wrong checksum each: "none that E1 skips"
   pub oem : table_after (example₁ ++ (0x23 ∷ 0x02 ∷ 0x30 ∷ 0x40 ∷ 0x03 ∷ 0x71 ∷ []))
-      ≡ heard_of 1 1 (Status 0x40) ∷ blanks 15
+      ≡ heard_of 1 1 (Some 0x40) ∷ blanks 15
   pub oem-wrong : table_after (example₁ ++ (0x24 ∷ 0x02 ∷ 0x30 ∷ 0x40 ∷ 0x03 ∷ 0x70 ∷ [])) ≡ blanks 16
   -- `/` in the checksum place begins no frame: `1Q` is outside one
   pub sum-place : table_after (0x02 ∷ 0x30 ∷ 0x11 ∷ 0x03 ∷ 0x2F ∷ (bytes "1Q" ++ (cr ∷ []))) ≡ blanks 16
   -- ".. the first line is `1 1 1 60` and the other fifteen are of the form `2 0 0 --`"
-  pub first-line : unit_line 1 (heard_of 1 1 (Status 0x60)) ≡ bytes "1 1 1 60"
+  pub first-line : unit_line 1 (heard_of 1 1 (Some 0x60)) ≡ bytes "1 1 1 60"
   pub other-lines : unit_line 2 blank_record ≡ bytes "2 0 0 --"
   -- a status with a letter, behind the greatest counts
-  pub longest-line : unit_line 16 (heard_of 4294967295 4294967295 (Status 0x4B)) ≡ bytes "16 4294967295 4294967295 4B"
+  pub longest-line : unit_line 16 (heard_of 4294967295 4294967295 (Some 0x4B)) ≡ bytes "16 4294967295 4294967295 4B"
 
 pub record ListeningClaims : Type 0 where
   -- "Where the reads cut the input does not alter the table"

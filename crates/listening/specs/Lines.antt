@@ -1,11 +1,9 @@
 -- The lines that the program prints: what they say of a unit and its record, and the line as a call answers it. 02, E10.
 -- Assumes nothing.
-use Rattle.std.specs.Prelude.{ℕ, ◌+◌, ◌-◌, ◌/◌, ◌%◌, cond, List, [], ◌∷◌, ◌++◌, ltb, length}
+use Rattle.std.specs.Prelude.{ℕ, ◌+◌, ◌-◌, ◌/◌, ◌%◌, cond, List, [], ◌∷◌, ◌++◌, ltb, length, Option, Some, None}
 use Rattle.parts.specs.Parts.{padded}
 use Rattle.parts.specs.Letters.{byte, bytes}
 use Rattle.digits.specs.Decimal.{decimal}
-use Rattle.listening.specs.declared.LastStatus.{LastStatus}
-use Rattle.listening.specs.declared.LastStatus.TheVariants.{Never, Status}
 use Rattle.listening.specs.declared.UnitRecord.{UnitRecord}
 use Rattle.listening.specs.declared.Line.{Line}
 
@@ -14,9 +12,9 @@ unfoldable pub hex_digit : ℕ → ℕ
 hex_digit n = cond (ltb n 10) (byte "0" + n) (byte "A" + (n - 10))
 
 -- "last status in two hex digits or `--`"
-abbrev pub status_text : LastStatus → List ℕ
-status_text Never = bytes "--"
-status_text (Status s) = hex_digit (s / 16) ∷ hex_digit (s % 16) ∷ []
+abbrev pub status_text : Option ℕ → List ℕ
+status_text None = bytes "--"
+status_text (Some s) = hex_digit (s / 16) ∷ hex_digit (s % 16) ∷ []
 
 -- "number, frames, answers, last status", a space between them, as in "`1 1 1 60`"
 unfoldable pub unit_line : ℕ → UnitRecord → List ℕ

@@ -1,13 +1,12 @@
 -- The table of a listener: a record for each unit, and what becomes of it when a frame or an answer is finished. 02, E10.
 -- Assumes nothing.
-use Rattle.std.specs.Prelude.{ℕ, zero, suc, ◌+◌, ◌-◌, cond, List, [], ◌∷◌, ltb, eqb, replicate}
-use Rattle.listening.specs.declared.LastStatus.TheVariants.{Never, Status}
+use Rattle.std.specs.Prelude.{ℕ, zero, suc, ◌+◌, ◌-◌, cond, List, [], ◌∷◌, ltb, eqb, replicate, Some, None}
 use Rattle.listening.specs.declared.UnitRecord.{UnitRecord}
 use Rattle.listening.specs.declared.Finish.{Finish}
 
 -- "a table of sixteen unit records"; nothing is heard of a unit yet
 abbrev pub blank_record : UnitRecord
-blank_record = record { frames = 0; answers = 0; last = Never }
+blank_record = record { frames = 0; answers = 0; last = None }
 
 abbrev pub blank_table : List UnitRecord
 blank_table = replicate 16 blank_record
@@ -25,7 +24,7 @@ with_frame r = record { frames = once_more r.frames; answers = r.answers; last =
 
 -- "whole answers .., last status"
 abbrev pub with_answer : ℕ → UnitRecord → UnitRecord
-with_answer status r = record { frames = r.frames; answers = once_more r.answers; last = Status status }
+with_answer status r = record { frames = r.frames; answers = once_more r.answers; last = Some status }
 
 -- the record at place k is changed, all others are as they were, and so is a table that has no such place
 abbrev pub changed_at : ℕ → (UnitRecord → UnitRecord) → List UnitRecord → List UnitRecord

@@ -2,36 +2,34 @@
 // answers, and of its last status. 02, E10.
 #![tactic(auto)]
 
-ghost use Rattle.std.specs.Prelude.{◌≡◌, not, [], ◌∷◌, ◌-◌, ◌≤◌, ◌<◌};
+ghost use Rattle.std.specs.Prelude.{◌≡◌, not, cond, eqb, [], ◌∷◌, ◌≤◌, ◌<◌};
+ghost use Rattle.parts.specs.Letters.{etx};
+ghost use Rattle.answers.specs.Reading.{good_status};
 ghost use Rattle.digits.specs.Operand.{widest};
 ghost use Rattle.digits.specs.Decimal.{decimal};
 ghost use Rattle.listening.specs.Table.{once_more, noted};
 ghost use Rattle.listening.specs.Lines.{hex_digit, status_text, unit_line, line_with};
 ghost use Rattle.listening.specs.Pieces.{record_place, with_finish, added, added_each};
-ghost use Rattle.listening.specs.Listen.{alone_of, after_address, after_status, may_follow, after_data};
-ghost use Rattle.listening.specs.Listen.{after_oem_address, after_sequence, after_oem_body, after_oem_status, after_oem_data};
+ghost use Rattle.listening.specs.Listen.{alone_of, after_address, may_follow};
+ghost use Rattle.listening.specs.Listen.{after_oem_address, after_sequence, after_oem_body, after_oem_status};
 ghost use Rattle.listening.specs.Listen.{standing, unit_after, ended_by, other_heard, not_sum, opens_at, hear_of, fresh_listener, listen_of};
 ghost use Rattle.listening.specs.Claims.{ListeningClaims};
 
-use digits::Written;
+use answers::{HOST_ADDRESS, MOST_DATA};
+use checksum::{ETX, STX};
+use frames::{CR, FIRST_SEQUENCE, LAST_SEQUENCE, SLASH, ZERO};
 
-// The status of a unit's last answer, where there was one.
-#[derive(Clone, Copy)]
-pub enum LastStatus {
-    Never,
-    Status(u8),
-}
-
-// What was heard of one unit.
+// What was heard of one unit, with the status of its last answer, where there was one.
 #[derive(Clone, Copy)]
 pub struct UnitRecord {
     pub frames: u32,
     pub answers: u32,
-    pub last: LastStatus,
+    pub last: Option<u8>,
 }
 
 // What a byte finishes: nothing that counts, a frame to a unit alone, or a whole answer of a unit with its status. Units are 1 to
 // 16; 0 is nobody.
+// Three cases of 02: as an Option around the last two, each match would nest another.
 #[derive(Clone, Copy)]
 pub enum Finish {
     Nothing,
@@ -59,6 +57,7 @@ pub enum Spot {
 }
 
 // Where the listener stands, and the unit of the last frame to a unit alone; 0 where none has come.
+// 0 is nobody in `Finish` and in the table's rule too: an Option here would stand in both, and each use would take it apart.
 #[derive(Clone, Copy)]
 pub struct Ear {
     pub spot: Spot,
@@ -73,6 +72,7 @@ pub struct Listener {
 }
 
 // A line of text: its bytes, zeros behind them, and how many bytes.
+// A buffer with its length: the text is the call's own, and the library has no heap.
 #[derive(Clone, Copy)]
 pub struct Line {
     pub bytes: [u8; LINE_BYTES],
@@ -82,14 +82,9 @@ pub struct Line {
 // The sixteen units, and the bytes that call them alone.
 const UNITS: usize = 16;
 
-const ZERO: u8 = b'0';
-
 const FIRST_UNIT: u8 = 0x31;
 
 const LAST_UNIT: u8 = 0x40;
-
-// "Counts stay at 4294967295 once there."
-const TOP: u32 = 4294967295;
 
 // The longest line has a unit of three digits, counts of ten, two digits of a status, and three spaces.
 const LINE_BYTES: usize = 28;
@@ -98,27 +93,6 @@ const SPACE: u8 = b' ';
 
 const DASH: u8 = b'-';
 
-// Frames begin with `/` or 02, plain bodies end with CR, those of OEM frames and the data of answers with 03.
-const SLASH: u8 = b'/';
-
-const STX: u8 = 2;
-
-const ETX: u8 = 3;
-
-const CR: u8 = 13;
-
-// Sequence bytes are 30 to 3F hex.
-const FIRST_SEQUENCE: u8 = 0x30;
-
-const LAST_SEQUENCE: u8 = 0x3F;
-
-// The data of an answer are at most 256 bytes of 20 to 7E hex.
-const MOST_DATA: u16 = 256;
-
-const LEAST_DATA: u8 = 0x20;
-
-const GREATEST_DATA: u8 = 0x7E;
-
 // A listener that has heard nothing.
 pub fn fresh() -> Listener
     ensures { result ≡ fresh_listener }
@@ -126,7 +100,7 @@ pub fn fresh() -> Listener
     let blank = UnitRecord {
         frames: 0,
         answers: 0,
-        last: LastStatus::Never,
+        last: None,
     };
     let ear = Ear {
         spot: Spot::Outside,
@@ -140,16 +114,13 @@ pub fn fresh() -> Listener
 pub fn listen(from: Listener, bytes: &[u8]) -> Listener
     ensures { result ≡ listen_of from bytes.now }
 {
-    let mut ear = from.ear;
-    let mut table = from.table;
-    for i in 0..bytes.len() {
-        let h = hear(ear, bytes[i]);
-        ear = h.ear;
-        let f = h.finish;
-        let next = table_told(table, f);
-        table = next;
+    let mut l = from;
+    for b in bytes {
+        let h = hear(l.ear, *b);
+        l.ear = h.ear;
+        note(&mut l.table, h.finish);
     }
-    Listener { ear, table }
+    l
 }
 
 // The line of a unit and its record, as `1 1 1 60` or `2 0 0 --`.
@@ -160,11 +131,10 @@ pub fn unit_line(unit: u8, r: UnitRecord) -> Line
         bytes: [0u8; LINE_BYTES],
         length: 0,
     };
-    let number = add_byte(add_number(blank, unit as u32), SPACE);
+    let number = add_byte(add_number(blank, u32::from(unit)), SPACE);
     let frames = add_byte(add_number(number, r.frames), SPACE);
     let answers = add_byte(add_number(frames, r.answers), SPACE);
-    let last = r.last;
-    add_status(answers, last)
+    add_status(answers, r.last)
 }
 
 // Does nothing: its promise is what 02 says of listening.
@@ -180,11 +150,11 @@ struct Hearing {
 }
 
 // One byte more.
+#[tactic(auto, unfolding(crate::specs::Listen::hear_of))]
 fn hear(ear: Ear, b: u8) -> Hearing
     ensures { result ≡ hear_of ear b }
 {
-    let spot = ear.spot;
-    let unit = ear.unit;
+    let Ear { spot, unit } = ear;
     if opens(SLASH, spot, b) {
         return stand(Spot::Address, unit);
     }
@@ -198,30 +168,14 @@ fn hear(ear: Ear, b: u8) -> Hearing
 fn opens(x: u8, spot: Spot, b: u8) -> bool
     ensures { result ≡ opens_at x spot b }
 {
-    if b == x {
-        return !summing(spot);
-    }
-    false
+    b == x && !summing(spot)
 }
 
 // Whether the listener stands in the checksum place.
 fn summing(spot: Spot) -> bool
     ensures { result ≡ not (not_sum spot) }
 {
-    match spot {
-        Spot::Outside => false,
-        Spot::Address => false,
-        Spot::Body(_) => false,
-        Spot::AnswerStatus => false,
-        Spot::AnswerData(_, _) => false,
-        Spot::AnswerEnd(_) => false,
-        Spot::OemAddress => false,
-        Spot::OemSequence(_, _) => false,
-        Spot::OemBody(_, _) => false,
-        Spot::OemStatus(_) => false,
-        Spot::OemData(_, _, _) => false,
-        Spot::OemSum(_, _) => true,
-    }
+    matches!(spot, Spot::OemSum(_, _))
 }
 
 // A byte that begins no frame.
@@ -232,8 +186,12 @@ fn take(spot: Spot, unit: u8, b: u8) -> Hearing
         Spot::Outside => stand(Spot::Outside, unit),
         Spot::Address => stand(in_address(b), unit),
         Spot::Body(f) => end_at(CR, b, f, Spot::Body(f), unit),
-        Spot::AnswerStatus => stand(in_status(b), unit),
-        Spot::AnswerData(status, n) => stand(in_data(status, n, b), unit),
+        Spot::AnswerStatus => { stand(in_status(b, Spot::AnswerData(b, 0), Spot::Outside), unit) }
+        Spot::AnswerData(status, n) => {
+            let end = Spot::AnswerEnd(status);
+            let more = Spot::AnswerData(status, n.saturating_add(1));
+            stand(in_data(n, b, end, more, Spot::Outside), unit)
+        }
         Spot::AnswerEnd(status) => end_at(
             CR,
             b,
@@ -246,10 +204,11 @@ fn take(spot: Spot, unit: u8, b: u8) -> Hearing
         Spot::OemBody(f, s) => stand(in_oem_body(f, checksum::with_byte(s, b), b), unit),
         Spot::OemStatus(s) => stand(in_oem_status(checksum::with_byte(s, b), b), unit),
         Spot::OemData(status, n, s) => {
-            stand(
-                in_oem_data(unit, status, n, checksum::with_byte(s, b), b),
-                unit,
-            )
+            let sum = checksum::with_byte(s, b);
+            let end = Spot::OemSum(Finish::AnswerOf(unit, status), sum);
+            let more = Spot::OemData(status, n.saturating_add(1), sum);
+            let other = Spot::OemBody(Finish::Nothing, sum);
+            stand(in_data(n, b, end, more, other), unit)
         }
         Spot::OemSum(f, s) => end_at(s, b, f, Spot::Outside, unit),
     }
@@ -286,56 +245,47 @@ fn unit_after(f: Finish, unit: u8) -> u8
     ensures { result ≡ unit_after f unit }
 {
     match f {
-        Finish::Nothing => unit,
         Finish::FrameTo(u) => u,
-        Finish::AnswerOf(_, _) => unit,
+        Finish::Nothing | Finish::AnswerOf(_, _) => unit,
     }
 }
 
 // What a frame with this address finishes.
+#[tactic(auto, unfolding(crate::specs::Listen::alone_of))]
 fn alone(a: u8) -> Finish
     ensures { result ≡ alone_of a }
 {
-    if a < FIRST_UNIT {
-        return Finish::Nothing;
+    match a {
+        FIRST_UNIT..=LAST_UNIT => Finish::FrameTo(a - ZERO),
+        _ => Finish::Nothing,
     }
-    if LAST_UNIT < a {
-        return Finish::Nothing;
-    }
-    Finish::FrameTo(a - ZERO)
 }
 
 // In the address place of a plain frame.
 fn in_address(b: u8) -> Spot
     ensures { result ≡ after_address b }
 {
-    if b == ZERO {
+    if b == HOST_ADDRESS {
         return Spot::AnswerStatus;
     }
     Spot::Body(alone(b))
 }
 
-// At the status of a plain answer.
-fn in_status(b: u8) -> Spot
-    ensures { result ≡ after_status b }
+// At the status of an answer: the place behind one that a packet may have, or another.
+fn in_status(b: u8, good: Spot, other: Spot) -> Spot
+    ensures { result ≡ cond (good_status b) good other }
 {
-    if answers::good_status(b) {
-        return Spot::AnswerData(b, 0);
-    }
-    Spot::Outside
+    if answers::good_status(b) { good } else { other }
 }
 
-// In the data of a plain answer.
-fn in_data(status: u8, n: u16, b: u8) -> Spot
-    ensures { result ≡ after_data status n b }
+// In the data of an answer: behind the 03 that ends them, behind one byte more of them, or behind another byte.
+fn in_data(n: u16, b: u8, end: Spot, more: Spot, other: Spot) -> Spot
+    ensures { result ≡ cond (eqb b etx) end (cond (may_follow n b) more other) }
 {
     if b == ETX {
-        return Spot::AnswerEnd(status);
+        return end;
     }
-    if may_follow(n, b) {
-        return Spot::AnswerData(status, n + 1);
-    }
-    Spot::Outside
+    if may_follow(n, b) { more } else { other }
 }
 
 // In the address place of an OEM frame.
@@ -346,7 +296,7 @@ fn in_oem_address(b: u8) -> Spot
         return Spot::Outside;
     }
     let s = checksum::with_byte(STX, b);
-    if b == ZERO {
+    if b == HOST_ADDRESS {
         return Spot::OemStatus(s);
     }
     Spot::OemSequence(alone(b), s)
@@ -356,16 +306,11 @@ fn in_oem_address(b: u8) -> Spot
 fn in_oem_sequence(f: Finish, s: u8, b: u8) -> Spot
     ensures { result ≡ after_sequence f s b }
 {
-    if b == ETX {
-        return Spot::Outside;
+    match b {
+        ETX => Spot::Outside,
+        FIRST_SEQUENCE..=LAST_SEQUENCE => Spot::OemBody(f, s),
+        _ => Spot::OemBody(Finish::Nothing, s),
     }
-    if b < FIRST_SEQUENCE {
-        return Spot::OemBody(Finish::Nothing, s);
-    }
-    if LAST_SEQUENCE < b {
-        return Spot::OemBody(Finish::Nothing, s);
-    }
-    Spot::OemBody(f, s)
 }
 
 // In the body of an OEM frame.
@@ -385,56 +330,15 @@ fn in_oem_status(s: u8, b: u8) -> Spot
     if b == ETX {
         return Spot::Outside;
     }
-    if answers::good_status(b) {
-        return Spot::OemData(b, 0, s);
-    }
-    Spot::OemBody(Finish::Nothing, s)
-}
-
-// In the data of an OEM answer.
-fn in_oem_data(unit: u8, status: u8, n: u16, s: u8, b: u8) -> Spot
-    ensures { result ≡ after_oem_data unit status n s b }
-{
-    if b == ETX {
-        return Spot::OemSum(Finish::AnswerOf(unit, status), s);
-    }
-    if may_follow(n, b) {
-        return Spot::OemData(status, n + 1, s);
-    }
-    Spot::OemBody(Finish::Nothing, s)
+    in_status(b, Spot::OemData(b, 0, s), Spot::OemBody(Finish::Nothing, s))
 }
 
 // Whether b may stand behind n bytes of data: fewer than 256 are there, and it is 20 to 7E hex.
+#[tactic(auto, unfolding(crate::specs::Listen::may_follow))]
 fn may_follow(n: u16, b: u8) -> bool
     ensures { result ≡ may_follow n b }
 {
-    if n >= MOST_DATA {
-        return false;
-    }
-    if b < LEAST_DATA {
-        return false;
-    }
-    b <= GREATEST_DATA
-}
-
-// The table after what was finished; it is lent only where something was.
-fn table_told(table: [UnitRecord; UNITS], f: Finish) -> [UnitRecord; UNITS]
-    ensures { result ≡ noted table f }
-{
-    match f {
-        Finish::Nothing => table,
-        Finish::FrameTo(_) => table_noted(table, f),
-        Finish::AnswerOf(_, _) => table_noted(table, f),
-    }
-}
-
-// Lends the table, and takes it back.
-fn table_noted(table: [UnitRecord; UNITS], f: Finish) -> [UnitRecord; UNITS]
-    ensures { result ≡ noted table f }
-{
-    let mut t = table;
-    note(&mut t, f);
-    t
+    usize::from(n) < MOST_DATA && answers::printable(b)
 }
 
 // Notes in a lent table of any length what was finished: the record of its unit changes, where the table has one, and no other.
@@ -442,10 +346,9 @@ fn note(table: &mut [UnitRecord], f: Finish)
     ensures { table.new ≡ noted table.old f }
 {
     let k = place(f);
-    if table.len() <= k {
-        return;
+    if k < table.len() {
+        table[k] = with_finish(table[k], f);
     }
-    table[k] = with_finish(table[k], f);
 }
 
 // The place of the record that it is about.
@@ -454,8 +357,7 @@ fn place(f: Finish) -> usize
 {
     match f {
         Finish::Nothing => 0,
-        Finish::FrameTo(u) => before(u),
-        Finish::AnswerOf(u, _) => before(u),
+        Finish::FrameTo(u) | Finish::AnswerOf(u, _) => usize::from(u.saturating_sub(1)),
     }
 }
 
@@ -464,50 +366,24 @@ fn with_finish(r: UnitRecord, f: Finish) -> UnitRecord
     ensures { result ≡ with_finish r f }
 {
     match f {
-        Finish::Nothing => r,
-        Finish::FrameTo(u) => {
-            if u == 0 {
-                r
-            } else {
-                let n = one_more(r.frames);
-                let mut v = r;
-                v.frames = n;
-                v
-            }
+        Finish::FrameTo(u) if u != 0 => UnitRecord {
+            frames: one_more(r.frames),
+            ..r
         },
-        Finish::AnswerOf(u, s) => {
-            if u == 0 {
-                r
-            } else {
-                let n = one_more(r.answers);
-                UnitRecord {
-                    frames: r.frames,
-                    answers: n,
-                    last: LastStatus::Status(s),
-                }
-            }
+        Finish::AnswerOf(u, s) if u != 0 => UnitRecord {
+            answers: one_more(r.answers),
+            last: Some(s),
+            ..r
         },
+        _ => r,
     }
 }
 
-// One more, and never past the top.
+// One more; "counts stay at 4294967295 once there".
 fn one_more(n: u32) -> u32
     ensures { result ≡ once_more n }
 {
-    if n < TOP { n + 1 } else { n }
-}
-
-// The place of a unit's record: one below its number.
-fn before(u: u8) -> usize
-    ensures { result ≡ u - 1 }
-{
-    if u == 0 { 0 } else { wide(u) - 1 }
-}
-
-fn wide(u: u8) -> usize
-    ensures { result ≡ u }
-{
-    u as usize
+    n.saturating_add(1)
 }
 
 // A line with a number behind it, which has 32 bits.
@@ -515,10 +391,10 @@ fn add_number(l: Line, n: u32) -> Line
     ensures { (result ≡ added l (decimal n)) × (n ≤ widest) }
 {
     let mut bytes = l.bytes;
-    let Written::Past(length) = digits::write_number(&mut bytes, l.length, n) else {
-        return l;
-    };
-    Line { bytes, length }
+    match digits::write_number(&mut bytes, l.length, n) {
+        Some(length) => Line { bytes, length },
+        None => l,
+    }
 }
 
 // A line with one byte behind it.
@@ -526,23 +402,24 @@ fn add_byte(l: Line, b: u8) -> Line
     ensures { result ≡ added l (b ∷ []) }
 {
     let mut bytes = l.bytes;
-    let Written::Past(length) = digits::write_byte(&mut bytes, l.length, b) else {
-        return l;
-    };
-    Line { bytes, length }
+    match digits::write_byte(&mut bytes, l.length, b) {
+        Some(length) => Line { bytes, length },
+        None => l,
+    }
 }
 
 // A line with the two bytes of a last status behind it.
-fn add_status(l: Line, last: LastStatus) -> Line
+fn add_status(l: Line, last: Option<u8>) -> Line
     ensures { result ≡ added_each l (status_text last) }
 {
     match last {
-        LastStatus::Never => add_byte(add_byte(l, DASH), DASH),
-        LastStatus::Status(s) => add_byte(add_byte(l, hex_digit(s / 16)), hex_digit(s % 16)),
+        None => add_byte(add_byte(l, DASH), DASH),
+        Some(s) => add_byte(add_byte(l, hex_digit(s / 16)), hex_digit(s % 16)),
     }
 }
 
 // A hex digit, in upper case.
+#[tactic(auto, unfolding(crate::specs::Lines::hex_digit))]
 fn hex_digit(n: u8) -> u8
     requires { n < 16 }
     ensures { result ≡ hex_digit n }

@@ -7,6 +7,7 @@ use native.Mathlib.Omega.{arith}
 use lib.Dec.{ltb, eqb}
 use lib.ListN.{length, drop}
 use borrow.Author.Tests.{ltb-true, lt-ltb, eqb-true}
+use Rattle.std.specs.Prelude.{Result, Ok, Err}
 use Rattle.parts.proofs.Laws.{cases}
 use Rattle.parts.specs.Parts.{most_bytes}
 use Rattle.digits.specs.declared.Operand.{Operand}
@@ -43,16 +44,16 @@ unfolding each
 line_code b = ltb-true (line_code_lem b) code_values (each-one (λ (x : ℕ). ltb x code_values) (0 ∷ 2 ∷ 3 ∷ []) (line_code_lem b) refl (codes b))
 
 -- an over-long body is refused
-pub too_long : (b : List ℕ) → most_bytes < length b → body_of b ≡ Body.Refused (fault 2 0)
+pub too_long : (b : List ℕ) → most_bytes < length b → body_of b ≡ Err (fault 2 0)
 unfolding body_of
 too_long b l = rw (lt-ltb _ _ l)
 
 -- no fault is told past the 257th byte
-pub refused-place : (b : List ℕ) {f : Fault} → body_of b ≡ Body.Refused f → f.place ≤ most_bytes + 1
+pub refused-place : (b : List ℕ) {f : Fault} → body_of b ≡ Err f → f.place ≤ most_bytes + 1
 unfolding line_fault
 refused-place b {f} e = rw e at (place-most b)
 
-pub line-place : (b : List ℕ) {f : Fault} → body_of b ≡ Body.Line → line_of b ≡ Taken.Refused f → f.place ≤ most_bytes + 1
+pub line-place : (b : List ℕ) {f : Fault} → body_of b ≡ Ok Body.Line → line_of b ≡ Err f → f.place ≤ most_bytes + 1
 unfolding line_fault
 line-place b {f} l e = rw (l, e) at (place-most b)
 
@@ -70,7 +71,7 @@ module _ (body : List ℕ) (c : Core) where
   quiet : Deed (silent c)
   quiet = tells Tell.Nothing nothing-told
 
-  immediate-does : (i : Immediate) → body_of body ≡ Body.Immediate i → Deed (immediate_obeyed i c)
+  immediate-does : (i : Immediate) → body_of body ≡ Ok (Body.Immediate i) → Deed (immediate_obeyed i c)
   immediate-does Terminate e = cases (λ (d : Core). Deed (silent d)) c.running (λ r. stops e r) (λ r. quiet)
   immediate-does Status e = quiet
   immediate-does CurrentText e = tells Tell.Text text-told
@@ -83,12 +84,12 @@ module _ (body : List ℕ) (c : Core) where
   immediate-does Clear e = clears
 
   -- "its commands, one or more, become the current text"
-  line_does : body_of body ≡ Body.Line → c.running ≡ false → (x : Taken) → line_of body ≡ x → taken_code x < code_values → Deed (line_obeyed x c)
-  line_does l r (Taken.Refused f) e k = refuses f k (line-place body l e)
-  line_does l r (Taken.Line n run) e k =
+  line_does : body_of body ≡ Ok Body.Line → c.running ≡ false → (x : Result Taken Fault) → line_of body ≡ x → taken_code x < code_values → Deed (line_obeyed x c)
+  line_does l r (Err f) e k = refuses f k (line-place body l e)
+  line_does l r (Ok (Taken.Line n run)) e k =
       let t = held body n run e in
       loads run n r (record { inside = t.inside; short = line-short body l; checked = t.checked })
-  line_does l r (Taken.Store slot at n) e k = let m = line-short body l in stores slot at n (stored body slot at n e m).inside m
+  line_does l r (Ok (Taken.Store slot at n)) e k = let m = line-short body l in stores slot at n (stored body slot at n e m).inside m
 
   -- 02, E3: such a line that gets no code has its number in range
   speed-does : c.running ≡ true → is_endless c.motor.wait ≡ true → speed_line body ≡ true → taken_code (line_of body) ≡ 0 → length body ≤ most_bytes → Speeds body c (speed_in body)
@@ -117,12 +118,12 @@ module _ (body : List ℕ) (c : Core) where
           ranged true q z = q
           ranged false q z = let y : ◌≡◌ {A = ℕ} 3 0 = rw q at z in absurd (omega arith)
 
-  by_line : body_of body ≡ Body.Line → (line_fault body).code ≡ 0 → taken_code (line_of body) ≡ 0
+  by_line : body_of body ≡ Ok Body.Line → (line_fault body).code ≡ 0 → taken_code (line_of body) ≡ 0
   unfolding line_fault
-  by_line e z = subst (λ (k : Body). (body_fault k body).code ≡ 0) e z
+  by_line e z = subst (λ (k : Result Body Fault). (body_fault k body).code ≡ 0) e z
 
   -- "tested before 15; at all other times 15 stands"
-  speed-or-busy : body_of body ≡ Body.Line → c.running ≡ true → Deed (speed_or_busy body c)
+  speed-or-busy : body_of body ≡ Ok Body.Line → c.running ≡ true → Deed (speed_or_busy body c)
   unfolding line_code_lem
   speed-or-busy e r =
       cases Deed (is_endless c.motor.wait && speed_line body)
@@ -132,15 +133,15 @@ module _ (body : List ℕ) (c : Core) where
       (λ z. refuses (line_fault body) (line_code body) (place-most body)))
       (λ q. refusal)
 
-  kind_does : (b : Body) → body_of body ≡ b → body_code b body < code_values → Deed (kind_obeyed b body c)
-  kind_does (Body.Refused f) e k = refuses f k (refused-place body e)
-  kind_does Body.Empty e k = quiet
-  kind_does (Body.Immediate i) e k = immediate-does i e
-  kind_does Body.Run e k =
+  kind_does : (b : Result Body Fault) → body_of body ≡ b → body_code b body < code_values → Deed (kind_obeyed b body c)
+  kind_does (Err f) e k = refuses f k (refused-place body e)
+  kind_does (Ok Body.Empty) e k = quiet
+  kind_does (Ok (Body.Immediate i)) e k = immediate-does i e
+  kind_does (Ok Body.Run) e k =
       cases Deed c.running (λ r. cases Deed (waits_input c.motor.wait) (λ w. resumes) (λ w. refusal))
       (λ r. cases (λ (d : Core). Deed (silent d)) c.loaded (λ q. again r) (λ q. quiet))
-  kind_does Body.Again e k = cases Deed c.running (λ r. refusal) (λ r. again r)
-  kind_does Body.Line e k = cases Deed c.running (λ r. speed-or-busy e r) (λ r. line_does e r (line_of body) refl k)
+  kind_does (Ok Body.Again) e k = cases Deed c.running (λ r. refusal) (λ r. again r)
+  kind_does (Ok Body.Line) e k = cases Deed c.running (λ r. speed-or-busy e r) (λ r. line_does e r (line_of body) refl k)
 
   pub body-does : Deed (body_obeyed body c)
   unfolding body_obeyed line_code_lem line_fault

@@ -3,12 +3,13 @@
 use Prim.Native.Nat.{ℕ, ◌-◌, ◌≤◌, ◌<◌}
 use mathlib.Core.Path.{◌≡◌, refl, sym, ap, ◌∙◌}
 use mathlib.Core.List.{List, [], ◌∷◌, ◌++◌}
-use mathlib.Core.Bool.{Bool, true, false, cond, ◌&&◌, and-eq-true_iff}
+use mathlib.Core.Bool.{Bool, true, false, cond, ◌&&◌, and-eq-true_iff, and-true, and-false}
 use native.Mathlib.Omega.{arith}
 use lib.ListN.{length, get_or, drop, length-append}
 use lib.Seq.{drop-cons, drop-append_seam}
 use lib.Dec.{eqb}
-use borrow.Author.Tests.{lt-ltb, eqb-true, eq-eqb}
+use borrow.Author.Tests.{lt-ltb, eqb-true, eq-eqb, ne_eqb}
+use Rattle.std.specs.Prelude.{Ok, Err}
 use Rattle.parts.proofs.Laws.{cases}
 use Rattle.digits.specs.declared.Operand.{Operand}
 use Rattle.digits.specs.declared.Operand.TheVariants.{Missing, Number, Above}
@@ -25,9 +26,7 @@ use Rattle.commands.specs.Reading.{out_of_range, bad_operand, required, read_by,
 use Rattle.commands.specs.Writing.{in_range}
 use Rattle.commands.proofs.ReadingLaws.{read_append, read_end}
 use Rattle.lines.specs.declared.Taken.{Taken}
-use Rattle.lines.specs.declared.Judged.{Judged}
-use Rattle.lines.specs.declared.Judged.TheVariants.{Passes, Refused}
-use Rattle.lines.specs.Texts.{commands, reading_from, fault_places, line_judged}
+use Rattle.lines.specs.Texts.{Judged, commands, reading_from, fault_places, line_judged}
 use Rattle.lines.specs.Bodies.{ends_with_r, taken, taken_of, line_of, taken_code}
 use Rattle.lines.proofs.TextLaws.{reading_law}
 use Rattle.lines.proofs.TakenLaws.{text_of, text-run}
@@ -43,19 +42,32 @@ speed_code Missing = 3
 speed_code (Number n next) = cond (fits n) 0 3
 speed_code (Above next) = 3
 
--- no bytes are no such line
-pub no_bytes-line : (b : List ℕ) → length b ≡ 0 → false ≡ speed_line b
-unfolding speed_line
-no_bytes-line [] e = refl
-no_bytes-line (x ∷ xs) e = absurd (omega arith)
-
--- behind `V` and the operand the last byte decides
-pub by_last-byte : (b : List ℕ) {o : Operand} {at : ℕ} → get_or b 0 0 ≡ 86 → o ≡ operand_at b 1 → at ≡ operand_end o → at ≡ length b - 1
-    → eqb (get_or b (length b - 1) 0) 82 ≡ speed_line b
+-- between `V` and the last `R` the operand decides
+pub by_operand : (b : List ℕ) {o : Operand} {at : ℕ} → get_or b 0 0 ≡ 86 → get_or b (length b - 1) 0 ≡ 82 → o ≡ operand_at b 1 → at ≡ operand_end o
+    → eqb at (length b - 1) ≡ speed_line b
 unfolding speed_line ends_with_r
-by_last-byte b f r e h =
-    let z : operand_end (operand_at b 1) ≡ length b - 1 = sym (e ∙ ap operand_end r) ∙ h in
-    rw (eq-eqb (get_or b 0 0) 86 f, eq-eqb (operand_end (operand_at b 1)) (length b - 1) z)
+by_operand b {at = at} f l r e =
+    let z : at ≡ operand_end (operand_at b 1) = e ∙ ap operand_end r in
+    rw (eq-eqb _ _ f, eq-eqb _ _ l, z) (sym (and-true _))
+
+-- fewer bytes, another letter or another end are no such line
+pub short-line : (b : List ℕ) → length b < 2 → false ≡ speed_line b
+unfolding speed_line ends_with_r
+short-line [] l = refl
+short-line (x ∷ []) l = go (eqb x 86) refl
+  where
+    go : (q : Bool) → eqb x 86 ≡ q → false ≡ speed_line (x ∷ [])
+    go true e = let z : x ≡ 86 = eqb-true x 86 e in rw z (sym (and-false _))
+    go false e = rw e
+short-line (x ∷ (y ∷ ys)) l = absurd (omega arith)
+
+pub other_letter : (b : List ℕ) → (get_or b 0 0 ≡ 86 → ⊥) → false ≡ speed_line b
+unfolding speed_line
+other_letter b n = simp (ne_eqb _ _ n)
+
+pub other_end : (b : List ℕ) → (get_or b (length b - 1) 0 ≡ 82 → ⊥) → false ≡ speed_line b
+unfolding speed_line ends_with_r
+other_end b n = simp (ne_eqb _ _ n, and-false)
 
 -- what such a line is: `V`, what the operand has, and one `R` behind it
 pub record SpeedBody (b t : List ℕ) : Type 0 where
@@ -103,7 +115,7 @@ module _ {b t : List ℕ} (s : SpeedBody b t) where
 
   bad-code : (run : Bool) → required 86 (Range.From 1 16777216) (operand_up_to operand_most b 1) 1 ≡ Bad out_of_range 1 → taken_code (taken_of t run) ≡ 3
   unfolding line_judged
-  bad-code run e = judged-code (Refused (bad_operand 1)) (rw (reading_law t 0, read_there, e)) run
+  bad-code run e = judged-code (Err (bad_operand 1)) (rw (reading_law t 0, read_there, e)) run
 
   good-code : (n next : ℕ) (run : Bool) → operand_up_to operand_most b 1 ≡ Number n next → fits n ≡ true → taken_code (taken_of t run) ≡ 0
   unfolding line_judged fault_places in_range within command_of asks_of find table
@@ -111,7 +123,7 @@ module _ {b t : List ℕ} (s : SpeedBody b t) where
       let z : next ≡ length t = sym (ap operand_end (up_to_number operand_most b 1 n next e).0) ∙ s.end in
       let one : read_at t 0 ≡ At (Plain (Set TopSpeed n)) (length t) = read_there ∙ rw (e, f, z) in
       let none : reading_from t (length t) ≡ commands [] = reading_law t (length t) ∙ rw (read_end t (length t) (omega arith)) in
-      judged-code Passes (rw (reading_law t 0, one, none)) run
+      judged-code (Ok tt) (rw (reading_law t 0, one, none)) run
 
   pub code_by : (o : Operand) → operand_up_to operand_most b 1 ≡ o → (run : Bool) → taken_code (taken_of t run) ≡ speed_code o
   unfolding in_range within asks_of find table

@@ -1,6 +1,6 @@
 -- For the code: what a body orders, a small value, so that the core is changed in one place and copied once.
 -- Assumes nothing.
-use Rattle.std.specs.Prelude.{ℕ, cond, ltb}
+use Rattle.std.specs.Prelude.{ℕ, Option, Some, None}
 use Rattle.motor.specs.declared.Wait.{Wait}
 use Rattle.motor.specs.Motion.{waiting}
 use Rattle.turns.specs.declared.Core.{Core}
@@ -19,9 +19,10 @@ changed_by (Change.Start n) c = started n c
 changed_by (Change.Load n) c = loaded_as n c
 changed_by (Change.Speed n) c = with_endless n c
 
--- a refusal's own code, which is a byte, or the held one
-abbrev pub code_by : ℕ → ℕ → ℕ
-code_by code held = cond (ltb code 256) code held
+-- a refusal's own code, or the held one
+abbrev pub code_by : Option ℕ → ℕ → ℕ
+code_by (Some code) held = code
+code_by None held = held
 
 -- an order carried out on a core
 abbrev pub ordered_as : Order → Core → Obeyed

@@ -1,6 +1,6 @@
 -- What a body can do to a unit, in a few words. 01, "Lines" and "What comes back".
 -- Assumes nothing.
-use Rattle.std.specs.Prelude.{ℕ, ◌+◌, ◌≤◌, ◌<◌, ◌≡◌, List, ◌∷◌, ◌++◌, Bool, true, false, length, take}
+use Rattle.std.specs.Prelude.{ℕ, ◌+◌, ◌≤◌, ◌<◌, ◌≡◌, List, ◌∷◌, ◌++◌, Bool, true, false, length, take, Ok}
 use Rattle.parts.specs.Letters.{byte, bytes}
 use Rattle.parts.specs.Parts.{most_bytes}
 use Rattle.digits.specs.Decimal.{decimal}
@@ -61,7 +61,7 @@ pub data Obeys (body : List ℕ) (c : Core) : Obeyed → Type 0 where
   -- `?9`
   clears : Obeys body c (writing Write.Clear c)
   -- `T`
-  stops : body_of body ≡ Body.Immediate Immediate.Terminate → c.running ≡ true → Obeys body c (silent (ended c.code c))
+  stops : body_of body ≡ Ok (Body.Immediate Immediate.Terminate) → c.running ≡ true → Obeys body c (silent (ended c.code c))
   -- "`R` alone ends a wait at `H`"
   resumes : Obeys body c (silent (with_motor (waiting Wait.Nothing c.motor) c))
   -- 02, E3: "It sets only the endless speed"

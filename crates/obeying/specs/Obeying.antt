@@ -1,6 +1,6 @@
 -- What a body makes of a unit, what is answered, and what is to be written to the image. 01, "Lines" and "What comes back".
 -- Assumes nothing.
-use Rattle.std.specs.Prelude.{ℕ, zero, suc, ◌^◌, min, List, [], Bool, true, false, cond, ◌&&◌, take, eqb}
+use Rattle.std.specs.Prelude.{ℕ, zero, suc, ◌^◌, min, List, [], Bool, true, false, cond, ◌&&◌, take, eqb, Result, Ok, Err}
 use Rattle.parts.specs.Parts.{part, padded_text}
 use Rattle.digits.specs.Decimal.{decimal}
 use Rattle.commands.specs.declared.Fault.{Fault}
@@ -108,10 +108,10 @@ abbrev pub loaded_for : Bool → ℕ → Core → Core
 loaded_for run n c = cond run (started n c) (loaded_as n c)
 
 -- "either way its commands .. become the current text"; a store "starts no run and leaves the current text"
-abbrev pub line_obeyed : Taken → Core → Obeyed
-line_obeyed (Taken.Refused f) c = refused_at f c
-line_obeyed (Taken.Line n run) c = writing (Write.Text n) (loaded_for run n c)
-line_obeyed (Taken.Store slot at n) c = writing (Write.Store slot at n) c
+abbrev pub line_obeyed : Result Taken Fault → Core → Obeyed
+line_obeyed (Err f) c = refused_at f c
+line_obeyed (Ok (Taken.Line n run)) c = writing (Write.Text n) (loaded_for run n c)
+line_obeyed (Ok (Taken.Store slot at n)) c = writing (Write.Store slot at n) c
 
 -- 02, E3: "It sets only the endless speed"; "such a line with a missing or bad operand gives 3", as an idle unit does, with the place
 abbrev pub speed_obeyed : List ℕ → Core → Obeyed
@@ -125,13 +125,13 @@ speed_or_busy body c = cond (is_endless c.motor.wait && speed_line body) (speed_
 abbrev pub line_or_busy : List ℕ → Core → Obeyed
 line_or_busy body c = cond c.running (speed_or_busy body c) (line_obeyed (line_of body) c)
 
-abbrev pub kind_obeyed : Body → List ℕ → Core → Obeyed
-kind_obeyed (Body.Refused f) body c = refused_at f c
-kind_obeyed Body.Empty body c = silent c
-kind_obeyed (Body.Immediate i) body c = immediate_obeyed i c
-kind_obeyed Body.Run body c = run_obeyed c
-kind_obeyed Body.Again body c = again_obeyed c
-kind_obeyed Body.Line body c = line_or_busy body c
+abbrev pub kind_obeyed : Result Body Fault → List ℕ → Core → Obeyed
+kind_obeyed (Err f) body c = refused_at f c
+kind_obeyed (Ok Body.Empty) body c = silent c
+kind_obeyed (Ok (Body.Immediate i)) body c = immediate_obeyed i c
+kind_obeyed (Ok Body.Run) body c = run_obeyed c
+kind_obeyed (Ok Body.Again) body c = again_obeyed c
+kind_obeyed (Ok Body.Line) body c = line_or_busy body c
 
 unfoldable pub body_obeyed : List ℕ → Core → Obeyed
 body_obeyed body c = kind_obeyed (body_of body) body c

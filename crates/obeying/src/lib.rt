@@ -3,13 +3,13 @@
 
 mod speed;
 
-ghost use Rattle.std.specs.Prelude.{◌≡◌, ◌≤◌};
+ghost use Rattle.std.specs.Prelude.{◌≡◌, ◌≤◌, Ok};
 ghost use Rattle.lines.specs.Bodies.{body_of};
 ghost use Rattle.turns.specs.declared.Core.{Core};
 ghost use Rattle.turns.specs.Turns.{started};
 ghost use Rattle.obeying.specs.Obeying.{step_size, place_told, refused_at, refused, telling, writing, terminated, immediate_obeyed};
 ghost use Rattle.obeying.specs.Obeying.{resumed, run_obeyed, again_obeyed, loaded_for, speed_obeyed, speed_or_busy, line_or_busy, body_obeyed};
-ghost use Rattle.obeying.specs.Changes.{changed_by, code_by, ordered_as};
+ghost use Rattle.obeying.specs.Changes.{changed_by, ordered_as};
 ghost use Rattle.obeying.specs.Deeds.{BodiesDo};
 
 use commands::Fault;
@@ -66,8 +66,8 @@ enum Change {
 #[derive(Clone, Copy)]
 struct Order {
     change: Change,
-    // A refusal's own, or `HELD`.
-    code: u32,
+    // A refusal's own; without one the held code is answered.
+    code: Option<u8>,
     tell: Tell,
     write: Write,
 }
@@ -75,81 +75,65 @@ struct Order {
 // Running, and not immediate nor a resuming `R`.
 const BUSY: u8 = 15;
 
-// No code is so large: the held code is answered.
-const HELD: u32 = 256;
+// The kept exponent of `j` is 0 to 8.
+const MOST_EXPONENT: u32 = 8;
 
 // A body obeyed or refused.
 pub fn obey(c: Core, body: &[u8]) -> Obeyed
     ensures { result ≡ body_obeyed body.now c }
 {
     let o = order_of(c, body);
-    let change = o.change;
-    let tell = o.tell;
-    let write = o.write;
-    let d = changed(c, change);
+    let d = changed(c, o.change);
     Obeyed {
         core: d,
-        code: code_of(o.code, d.code),
-        tell: tell,
-        write: write,
+        code: o.code.unwrap_or(d.code),
+        tell: o.tell,
+        write: o.write,
     }
 }
 
 // A core with a change made, in this one place.
-fn changed(c: Core, change: Change) -> Core
+fn changed(mut c: Core, change: Change) -> Core
     ensures { result ≡ changed_by change c }
 {
-    let m = c.motor;
-    let mut d = c;
     match change {
         Change::Stay => {}
         Change::Stop => {
-            d.motor = motor::stop(m);
-            d.running = false;
+            c.motor = motor::stop(c.motor);
+            c.running = false;
         }
         Change::Resume => {
-            d.motor = motor::resume(m);
+            c.motor = motor::resume(c.motor);
         }
         Change::Start(n) => {
-            d.flow = flow::begin(n);
-            d.running = true;
-            d.loaded = false;
-            d.code = 0;
+            c.flow = flow::begin(n);
+            c.running = true;
+            c.loaded = false;
+            c.code = 0;
         }
         Change::Load(n) => {
-            d.flow = flow::begin(n);
-            d.running = false;
-            d.loaded = true;
+            c.flow = flow::begin(n);
+            c.running = false;
+            c.loaded = true;
         }
         Change::Speed(n) => {
-            d.endless = n;
+            c.endless = n;
         }
     }
-    d
-}
-
-// A refusal's own code, or the held one.
-fn code_of(code: u32, held: u8) -> u8
-    ensures { result ≡ code_by code held }
-{
-    if code < HELD {
-        return code as u8;
-    }
-    held
+    c
 }
 
 // What a body orders.
 fn order_of(c: Core, body: &[u8]) -> Order
     ensures { ordered_as result c ≡ body_obeyed body.now c }
 {
-    let kind = lines::body_of(body);
-    match kind {
-        Body::Refused(f) => refuse_at(f),
-        Body::Empty => hold(Change::Stay, Tell::Nothing),
-        Body::Immediate(i) => order_immediate(c, i),
-        Body::Run => order_run(c),
-        Body::Again => order_again(c),
-        Body::Line => order_line(c, body),
+    match lines::body_of(body) {
+        Err(f) => refuse_at(f),
+        Ok(Body::Empty) => hold(Change::Stay, Tell::Nothing),
+        Ok(Body::Immediate(i)) => order_immediate(c, i),
+        Ok(Body::Run) => order_run(c),
+        Ok(Body::Again) => order_again(c),
+        Ok(Body::Line) => order_line(c, body),
     }
 }
 
@@ -157,10 +141,7 @@ fn order_of(c: Core, body: &[u8]) -> Order
 fn refuse(code: u8) -> Order
     ensures { (c : Core) → ordered_as result c ≡ refused code c }
 {
-    refuse_at(Fault {
-        code: code,
-        place: 0,
-    })
+    refuse_at(Fault { code, place: 0 })
 }
 
 // A refused body: its own code, and the place of its fault.
@@ -170,7 +151,7 @@ fn refuse_at(f: Fault) -> Order
 {
     Order {
         change: Change::Stay,
-        code: wide(f.code),
+        code: Some(f.code),
         tell: tell_place(f.place),
         write: Write::Nothing,
     }
@@ -192,9 +173,9 @@ fn hold(change: Change, tell: Tell) -> Order
     ensures { (c : Core) → ordered_as result c ≡ telling tell (changed_by change c) }
 {
     Order {
-        change: change,
-        code: HELD,
-        tell: tell,
+        change,
+        code: None,
+        tell,
         write: Write::Nothing,
     }
 }
@@ -204,10 +185,10 @@ fn hold_writing(change: Change, write: Write) -> Order
     ensures { (c : Core) → ordered_as result c ≡ writing write (changed_by change c) }
 {
     Order {
-        change: change,
-        code: HELD,
+        change,
+        code: None,
         tell: Tell::Nothing,
-        write: write,
+        write,
     }
 }
 
@@ -215,20 +196,19 @@ fn hold_writing(change: Change, write: Write) -> Order
 fn order_immediate(c: Core, i: Immediate) -> Order
     ensures { ordered_as result c ≡ immediate_obeyed i c }
 {
-    let m = c.motor;
-    let s = c.settings;
-    match i {
-        Immediate::Terminate => hold(terminate(c), Tell::Nothing),
-        Immediate::Status => hold(Change::Stay, Tell::Nothing),
-        Immediate::CurrentText => hold(Change::Stay, Tell::Text),
-        Immediate::Position => hold(Change::Stay, Tell::Number(m.position)),
-        Immediate::Speed => hold(Change::Stay, Tell::Number(s.speed)),
-        Immediate::Sample => hold(Change::Stay, Tell::Number(wide(m.sample))),
-        Immediate::EndlessSpeed => hold(Change::Stay, Tell::Number(c.endless)),
-        Immediate::StepSize => hold(Change::Stay, Tell::Number(step_size(s.exponent))),
-        Immediate::Correction => hold(Change::Stay, Tell::Number(s.correction)),
-        Immediate::Clear => hold_writing(Change::Stay, Write::Clear),
-    }
+    let tell = match i {
+        Immediate::Terminate => return hold(terminate(c), Tell::Nothing),
+        Immediate::Clear => return hold_writing(Change::Stay, Write::Clear),
+        Immediate::Status => Tell::Nothing,
+        Immediate::CurrentText => Tell::Text,
+        Immediate::Position => Tell::Number(c.motor.position),
+        Immediate::Speed => Tell::Number(c.settings.speed),
+        Immediate::Sample => Tell::Number(u32::from(c.motor.sample)),
+        Immediate::EndlessSpeed => Tell::Number(c.endless),
+        Immediate::StepSize => Tell::Number(step_size(c.settings.exponent)),
+        Immediate::Correction => Tell::Number(c.settings.correction),
+    };
+    hold(Change::Stay, tell)
 }
 
 // `T`.
@@ -241,28 +221,11 @@ fn terminate(c: Core) -> Change
     Change::Stay
 }
 
-// A byte as a number of 32 bits.
-fn wide(x: u8) -> u32
-    ensures { result ≡ x }
-{
-    x as u32
-}
-
 // 2 to the kept exponent of `j`.
 fn step_size(exponent: u32) -> u32
     ensures { result ≡ step_size exponent }
 {
-    match exponent {
-        0 => 1,
-        1 => 2,
-        2 => 4,
-        3 => 8,
-        4 => 16,
-        5 => 32,
-        6 => 64,
-        7 => 128,
-        _ => 256,
-    }
+    1 << exponent.min(MOST_EXPONENT)
 }
 
 // `R` alone: a wait at `H` ends, or a loaded line not yet run runs.
@@ -282,8 +245,7 @@ fn order_run(c: Core) -> Order
 fn resume(c: Core) -> Order
     ensures { ordered_as result c ≡ resumed c }
 {
-    let m = c.motor;
-    if motor::waits_input(m) {
+    if motor::waits_input(c.motor) {
         return hold(Change::Resume, Tell::Nothing);
     }
     refuse(BUSY)
@@ -303,30 +265,23 @@ fn order_again(c: Core) -> Order
 fn run_text(c: Core) -> Change
     ensures { changed_by result c ≡ started c.flow.length c }
 {
-    let f = c.flow;
-    Change::Start(f.length)
+    Change::Start(c.flow.length)
 }
 
 // A line or a store, where the unit is idle; where it runs, none but the endless speed.
 fn order_line(c: Core, body: &[u8]) -> Order
-    requires { body_of body.now ≡ Body.Line }
+    requires { body_of body.now ≡ Ok Body.Line }
     ensures { ordered_as result c ≡ line_or_busy body.now c }
 {
     if c.running {
         return order_speed_or_busy(c, body);
     }
-    let line = lines::line_of(body);
-    match line {
-        Taken::Refused(f) => refuse_at(f),
-        Taken::Line { length, run } => hold_writing(load(length, run), Write::Text(length)),
-        Taken::Store { slot, at, length } => hold_writing(
-            Change::Stay,
-            Write::Store {
-                slot: slot,
-                at: at,
-                length: length,
-            },
-        ),
+    match lines::line_of(body) {
+        Err(f) => refuse_at(f),
+        Ok(Taken::Line { length, run }) => hold_writing(load(length, run), Write::Text(length)),
+        Ok(Taken::Store { slot, at, length }) => {
+            hold_writing(Change::Stay, Write::Store { slot, at, length })
+        }
     }
 }
 
@@ -334,25 +289,20 @@ fn order_line(c: Core, body: &[u8]) -> Order
 fn order_speed_or_busy(c: Core, body: &[u8]) -> Order
     ensures { ordered_as result c ≡ speed_or_busy body.now c }
 {
-    let m = c.motor;
-    if !motor::is_endless(m) {
-        return refuse(BUSY);
+    if motor::is_endless(c.motor) && speed::is_speed_line(body) {
+        return order_speed(body);
     }
-    if !speed::is_speed_line(body) {
-        return refuse(BUSY);
-    }
-    order_speed(body)
+    refuse(BUSY)
 }
 
 // The endless speed set, or the line refused.
 fn order_speed(body: &[u8]) -> Order
     ensures { (c : Core) → ordered_as result c ≡ speed_obeyed body.now c }
 {
-    let fault = lines::check_line(body);
-    if fault.code == 0 {
-        return hold(Change::Speed(speed::speed_in(body)), Tell::Nothing);
+    match lines::check_line(body) {
+        Ok(()) => hold(Change::Speed(speed::speed_in(body)), Tell::Nothing),
+        Err(fault) => refuse_at(fault),
     }
-    refuse_at(fault)
 }
 
 // A line's text at its beginning: run, or held.

@@ -9,17 +9,10 @@ use digits::Operand;
 pub(crate) fn is_speed_line(body: &[u8]) -> bool
     ensures { result ≡ speed_line body.now }
 {
-    let n = body.len();
-    if n == 0 {
-        return false;
+    match body {
+        [b'V', .., b'R'] => operand_end(digits::read_operand(body, 1)) == body.len() - 1,
+        _ => false,
     }
-    if body[0] != b'V' {
-        return false;
-    }
-    if operand_end(digits::read_operand(body, 1)) != n - 1 {
-        return false;
-    }
-    body[n - 1] == b'R'
 }
 
 // The place behind the operand; without one, that behind the letter.
@@ -28,8 +21,7 @@ fn operand_end(operand: Operand) -> usize
 {
     match operand {
         Operand::Missing => 1,
-        Operand::Number(_, next) => next,
-        Operand::Above(next) => next,
+        Operand::Number(_, next) | Operand::Above(next) => next,
     }
 }
 
@@ -45,8 +37,7 @@ fn number_in(operand: Operand) -> u32
     ensures { result ≡ number_in operand }
 {
     match operand {
-        Operand::Missing => 0,
         Operand::Number(n, _) => n,
-        Operand::Above(_) => 0,
+        Operand::Missing | Operand::Above(_) => 0,
     }
 }

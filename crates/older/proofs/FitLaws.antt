@@ -29,7 +29,7 @@ use Rattle.older.specs.declared.Stands.{Stands}
 use Rattle.older.specs.declared.Stands.TheVariants.{Carries, Lacks, Unfit, Ends}
 use Rattle.older.specs.declared.Refusal.{Refusal}
 use Rattle.older.specs.Older.{older_table, older_in, older_asks, both_have, older_in_range, sets_ramp, slower, becomes, older_takes}
-use Rattle.older.specs.Items.{stand_in, stands_read, stands_at, Item, carries, lacks, unfit, items_on, items_in, items_from, letter_places, operand_places, items_placed, most_carried, places_past, sooner, soonest, refusal_of, carried_commands, text_for, judged_for}
+use Rattle.older.specs.Items.{stand_in, stands_read, stands_at, Item, carries, lacks, unfit, items_on, items_in, items_from, letter_places, operand_places, items_placed, most_carried, places_past, sooner, soonest, refusal_of, carried_commands, text_for}
 use Rattle.older.proofs.CarryLaws.{both, becomes-same}
 use Rattle.older.proofs.ItemLaws.{good-goes, letter-goes, unfit-goes}
 
@@ -196,7 +196,7 @@ most-few : (w : Way) → most_carried w ≤ 25
 most-few Inward = omega arith
 most-few Outward = omega arith
 
-pub text-most : (w : Way) (t : List ℕ) → (judged_for w (items_from w t 0)).refusal.place ≡ 0 → length (text_for w t) ≤ 275
+pub text-most : (w : Way) (t : List ℕ) → (refusal_of w (items_from w t 0)).place ≡ 0 → length (text_for w t) ≤ 275
 unfolding refusal_of
 text-most w t h =
     let is : List Item = items_from w t 0 in

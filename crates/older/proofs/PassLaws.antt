@@ -2,7 +2,7 @@
 use Prim.Native.Nat.{ℕ, zero, suc, ◌+◌, ◌-◌, ◌≤◌, ◌<◌}
 use mathlib.Core.Path.{◌≡◌, refl, sym, ◌∙◌}
 use mathlib.Core.List.{List, [], ◌∷◌}
-use mathlib.Core.Bool.{false, cond, ◌||◌, or_assoc, or-false}
+use mathlib.Core.Bool.{Bool, false, cond, ◌||◌, or_assoc, or-false}
 use native.Mathlib.Omega.{arith}
 use lib.ListN.{length}
 use lib.Dec.{eqb}
@@ -14,20 +14,21 @@ use Rattle.lines.proofs.PlaceLaws.{left-zero, left_assoc}
 use Rattle.lines.proofs.ScanLaws.{Held, opened, held_next, see_held, leftmost_fault, left-next, left_end, start_left}
 use Rattle.older.specs.declared.Way.{Way}
 use Rattle.older.specs.declared.Stands.TheVariants.{Carries, Lacks, Unfit, Ends}
-use Rattle.older.specs.declared.Judgement.{Judgement}
+use Rattle.older.specs.declared.Refusal.{Refusal}
+use Rattle.std.specs.Prelude.{Result}
 use Rattle.older.specs.declared.Sight.{Sight}
 use Rattle.older.specs.Older.{sets_ramp}
-use Rattle.older.specs.Items.{stand_in, stands_at, Item, carries, lacks, unfit, items_from, letter_places, operand_places, items_placed, places_past, soonest, refusal_of, carried_commands, any_ramp, judged_for}
+use Rattle.older.specs.Items.{stand_in, stands_at, Item, carries, lacks, unfit, items_from, letter_places, operand_places, items_placed, places_past, soonest, refusal_of, carried_commands, any_ramp, judged_as, judged_for}
 use Rattle.older.specs.Pass.{first_sight, seen_good, seen_letter, seen_operand, sight_told}
 use Rattle.older.proofs.ItemLaws.{good-goes, letter-goes, unfit-goes, items_law}
 
 -- what is judged when the rest is read: the commands to come stand inside loops that begin at `begun`
-abbrev pub judged_on : Sight → List ℕ → List Item → Judgement
-judged_on s begun is = record {
-  refusal = soonest (left_of s.letter (leftmost (letter_places is))) (left_of s.operand (leftmost (operand_places is))) (leftmost_fault s.scan begun (items_placed is))
-      (left_of s.late (leftmost (places_past s.left (items_placed is))));
-  slowed = s.slowed || any_ramp (carried_commands is);
-}
+abbrev pub judged_on : Sight → List ℕ → List Item → Result Bool Refusal
+judged_on s begun is =
+    judged_as
+    (soonest (left_of s.letter (leftmost (letter_places is))) (left_of s.operand (leftmost (operand_places is))) (leftmost_fault s.scan begun (items_placed is))
+    (left_of s.late (leftmost (places_past s.left (items_placed is)))))
+    (s.slowed || any_ramp (carried_commands is))
 
 late_next : (late left p : ℕ) (c : Command) (cs : List Placed)
     → left_of late (leftmost (places_past left (placed p c ∷ cs))) ≡ left_of (cond (eqb left 0) (left_of late p) late) (leftmost (places_past (left - 1) cs))

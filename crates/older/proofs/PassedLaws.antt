@@ -22,13 +22,14 @@ use Rattle.lines.specs.Lists.{commands_text, all_in_range}
 use Rattle.lines.proofs.PlaceLaws.{Inside, AllInside, places-inside, leftmost-some, places-none, stored-none, none-nil, nil-none}
 use Rattle.lines.proofs.TextLaws.{before_bare, bare-end, bare_at}
 use Rattle.lines.proofs.PieceLaws.{written_pieces, pieces_read}
+use Rattle.std.specs.Prelude.{Ok, Err}
 use Rattle.older.specs.declared.Way.{Way}
 use Rattle.older.specs.declared.Way.TheVariants.{Inward}
 use Rattle.older.specs.declared.Stands.{Stands}
 use Rattle.older.specs.declared.Stands.TheVariants.{Carries, Lacks, Unfit, Ends}
 use Rattle.older.specs.Older.{both_have, older_takes, sets_ramp, number_of, slower, becomes}
-use Rattle.older.specs.Items.{stand_in, stands_read, stands_at, Item, carries, lacks, unfit, items_on, items_in, items_from, letter_places, operand_places, items_placed, most_carried, places_past, refusal_of, carried_commands, any_ramp, judged_for, text_for}
-use Rattle.older.specs.Examples.{gives, refuses, outcome}
+use Rattle.older.specs.Items.{stand_in, stands_read, stands_at, Item, carries, lacks, unfit, items_on, items_in, items_from, letter_places, operand_places, items_placed, most_carried, places_past, refusal_of, carried_commands, any_ramp, text_for}
+use Rattle.older.specs.Examples.{gives, outcome_as, outcome}
 use Rattle.older.specs.Claims.{SomeRamp, here, later, all_taken, Passed, other}
 use Rattle.older.proofs.CarryLaws.{becomes-same}
 use Rattle.older.proofs.ItemLaws.{good-goes}
@@ -176,16 +177,17 @@ no_ramp w (c ∷ cs) e = go (sets_ramp c) refl e (λ h. no_ramp w cs h)
 -- ---- what passes
 
 record Went (w : Way) (t r : List ℕ) (slowed : Bool) : Type 0 where
-  pub nowhere : (judged_for w (items_from w t 0)).refusal.place ≡ 0
+  pub nowhere : (refusal_of w (items_from w t 0)).place ≡ 0
   pub text : r ≡ text_for w t
   pub ramp : slowed ≡ any_ramp (carried_commands (items_from w t 0))
 
 went : (w : Way) (t r : List ℕ) (slowed : Bool) → outcome w t ≡ gives r slowed → Went w t r slowed
 unfolding outcome
-went w t r slowed e = go (eqb (judged_for w (items_from w t 0)).refusal.place 0) refl e
+went w t r slowed e = go (eqb (refusal_of w (items_from w t 0)).place 0) refl e
   where
-    go : (b : Bool) → eqb (judged_for w (items_from w t 0)).refusal.place 0 ≡ b
-        → cond b (gives (text_for w t) (any_ramp (carried_commands (items_from w t 0)))) (refuses (judged_for w (items_from w t 0)).refusal) ≡ gives r slowed → Went w t r slowed
+    go : (b : Bool) → eqb (refusal_of w (items_from w t 0)).place 0 ≡ b
+        → outcome_as (cond b (Ok (any_ramp (carried_commands (items_from w t 0)))) (Err (refusal_of w (items_from w t 0)))) (text_for w t) ≡ gives r slowed
+        → Went w t r slowed
     go true q h =
         let a : text_for w t ≡ r = cc in
         let b : any_ramp (carried_commands (items_from w t 0)) ≡ slowed = cc in

@@ -1,5 +1,5 @@
 -- Texts and what is answered of them: 02's example, and edges around its sentences. 02, E12. Assumes nothing.
-use Rattle.std.specs.Prelude.{ℕ, List, [], ◌∷◌, Bool, true, false, cond, eqb}
+use Rattle.std.specs.Prelude.{ℕ, List, [], ◌∷◌, Bool, true, false, Result, Ok, Err}
 use Prim.Native.String as Text
 use Rattle.parts.specs.Letters.{bytes}
 use Rattle.older.specs.declared.Way.{Way}
@@ -7,7 +7,6 @@ use Rattle.older.specs.declared.Way.TheVariants.{Inward, Outward}
 use Rattle.older.specs.declared.Why.{Why}
 use Rattle.older.specs.declared.Why.TheVariants.{BadLetter, BadOperand, BadStructure, PastMost}
 use Rattle.older.specs.declared.Refusal.{Refusal}
-use Rattle.older.specs.declared.Judgement.{Judgement}
 use Rattle.older.specs.Items.{refusal, items_from, judged_for, text_for}
 
 -- a text on the other drive, and whether a ramp was slowed; or why it is refused
@@ -15,8 +14,9 @@ pub data Crossed : Type 0 where
   gives : List ℕ → Bool → Crossed
   refuses : Refusal → Crossed
 
-abbrev pub outcome_as : Judgement → List ℕ → Crossed
-outcome_as j t = cond (eqb j.refusal.place 0) (gives t j.slowed) (refuses j.refusal)
+abbrev pub outcome_as : Result Bool Refusal → List ℕ → Crossed
+outcome_as (Ok slowed) t = gives t slowed
+outcome_as (Err f) t = refuses f
 
 unfoldable pub outcome : Way → List ℕ → Crossed
 outcome w t = outcome_as (judged_for w (items_from w t 0)) (text_for w t)

@@ -1,5 +1,5 @@
 -- A text of one drive for the other: read past its faults, the leftmost told, written plainly. 02, E12. Assumes nothing.
-use Rattle.std.specs.Prelude.{ℕ, zero, suc, ◌+◌, List, [], ◌∷◌, Bool, false, cond, ◌||◌, ◌≡◌, length, get_or, ltb, eqb}
+use Rattle.std.specs.Prelude.{ℕ, zero, suc, ◌+◌, List, [], ◌∷◌, Bool, false, cond, ◌||◌, ◌≡◌, length, get_or, ltb, eqb, Result, Ok, Err}
 use Prim.Native.String.{String}
 use Rattle.parts.specs.Parts.{fits_at, put}
 use Rattle.parts.specs.Letters.{byte}
@@ -20,9 +20,9 @@ use Rattle.older.specs.declared.Stands.TheVariants.{Carries, Lacks, Unfit, Ends}
 use Rattle.older.specs.declared.Why.{Why}
 use Rattle.older.specs.declared.Why.TheVariants.{BadLetter, BadOperand, BadStructure, PastMost}
 use Rattle.older.specs.declared.Refusal.{Refusal}
-use Rattle.older.specs.declared.Judgement.{Judgement}
 use Rattle.older.specs.declared.Translated.{Translated}
-use Rattle.older.specs.declared.Translated.TheVariants.{Text, Refused, NoRoom}
+use Rattle.older.specs.declared.NotTranslated.{NotTranslated}
+use Rattle.older.specs.declared.NotTranslated.TheVariants.{Refused, NoRoom}
 use Rattle.older.specs.Older.{both_have, older_takes, sets_ramp, becomes}
 
 -- ---- what stands at a place
@@ -140,27 +140,35 @@ unfoldable pub any_ramp : List Command → Bool
 any_ramp [] = false
 any_ramp (c ∷ cs) = sets_ramp c || any_ramp cs
 
+-- whether a ramp was slowed, where nothing is refused; a place 0 is none
+abbrev pub judged_as : Refusal → Bool → Result Bool Refusal
+judged_as f slowed = cond (eqb f.place 0) (Ok slowed) (Err f)
+
 -- how a whole text is judged
-abbrev pub judged_for : Way → List Item → Judgement
-judged_for w is = record { refusal = refusal_of w is; slowed = any_ramp (carried_commands is) }
+abbrev pub judged_for : Way → List Item → Result Bool Refusal
+judged_for w is = judged_as (refusal_of w is) (any_ramp (carried_commands is))
 
 -- ---- the answer
 
--- the text, where nothing is refused and the buffer has room for it
-abbrev pub translated_as : Judgement → ℕ → List ℕ → Translated
-translated_as j n buffer = cond (eqb j.refusal.place 0) (cond (fits_at buffer 0 n) (Text n j.slowed) NoRoom) (Refused j.refusal)
+-- so many bytes, and whether a ramp was slowed
+abbrev pub translated : ℕ → Bool → Translated
+translated n slowed = record { length = n; slowed = slowed }
 
-unfoldable pub translated_of : Way → List ℕ → List ℕ → Translated
+-- the text, where nothing is refused and the buffer has room for it
+abbrev pub translated_as : Result Bool Refusal → ℕ → List ℕ → Result Translated NotTranslated
+translated_as (Ok slowed) n buffer = cond (fits_at buffer 0 n) (Ok (translated n slowed)) (Err NoRoom)
+translated_as (Err f) n buffer = Err (Refused f)
+
+unfoldable pub translated_of : Way → List ℕ → List ℕ → Result Translated NotTranslated
 translated_of w t buffer = translated_as (judged_for w (items_from w t 0)) (length (text_for w t)) buffer
 
 -- what each answer leaves: the text at the front, bytes past it unchanged; refused, the buffer as it was
-abbrev pub left_for : Translated → List ℕ → List ℕ → List ℕ
-left_for (Text n slowed) text buffer = put buffer 0 text
-left_for (Refused f) text buffer = buffer
-left_for NoRoom text buffer = buffer
+abbrev pub left_for : Result Translated NotTranslated → List ℕ → List ℕ → List ℕ
+left_for (Ok t) text buffer = put buffer 0 text
+left_for (Err e) text buffer = buffer
 
 -- the answer and the buffer after a text was to be read or written back
-pub record TranslatedIs (w : Way) (t buffer : List ℕ) (answer : Translated) (after : List ℕ) : Type 0 where
+pub record TranslatedIs (w : Way) (t buffer : List ℕ) (answer : Result Translated NotTranslated) (after : List ℕ) : Type 0 where
   pub answers : answer ≡ translated_of w t buffer
   pub leaves : after ≡ left_for (translated_of w t buffer) (text_for w t) buffer
 

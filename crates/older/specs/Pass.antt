@@ -1,20 +1,18 @@
 -- For the code: a text judged in one pass. That it finds what the definition says is proved. Assumes nothing.
-use Rattle.std.specs.Prelude.{ℕ, ◌-◌, Bool, false, cond, ◌||◌, eqb}
+use Rattle.std.specs.Prelude.{ℕ, ◌-◌, Bool, false, cond, ◌||◌, eqb, Option, Some, None, Result}
 use Rattle.commands.specs.declared.Command.{Command}
 use Rattle.lines.specs.declared.Scan.{Scan}
 use Rattle.lines.specs.Texts.{left_of}
 use Rattle.lines.specs.Scan.{scan, see_of, scan_place}
 use Rattle.older.specs.declared.Way.{Way}
-use Rattle.older.specs.declared.Carried.{Carried}
-use Rattle.older.specs.declared.Carried.TheVariants.{Fit, NoFit}
-use Rattle.older.specs.declared.Judgement.{Judgement}
+use Rattle.older.specs.declared.Refusal.{Refusal}
 use Rattle.older.specs.declared.Sight.{Sight}
 use Rattle.older.specs.Older.{older_takes, sets_ramp, becomes}
-use Rattle.older.specs.Items.{stand_in, most_carried, soonest}
+use Rattle.older.specs.Items.{stand_in, most_carried, soonest, judged_as}
 
 -- a command as the other drive has it, or that it has none
-abbrev pub carried_of : Way → Command → Carried
-carried_of w c = cond (older_takes w c) (Fit (becomes w c)) NoFit
+abbrev pub carried_of : Way → Command → Option Command
+carried_of w c = cond (older_takes w c) (Some (becomes w c)) None
 
 abbrev pub sight : Scan → ℕ → ℕ → ℕ → ℕ → Bool → Sight
 sight s l o m k r = record { scan = s; letter = l; operand = o; late = m; left = k; slowed = r }
@@ -38,5 +36,5 @@ abbrev pub seen_operand : Sight → ℕ → Command → Sight
 seen_operand s p c = let u = item_counted s p c in sight u.scan u.letter (left_of s.operand p) u.late u.left u.slowed
 
 -- at the end
-abbrev pub sight_told : Sight → Judgement
-sight_told s = record { refusal = soonest s.letter s.operand (scan_place s.scan) s.late; slowed = s.slowed }
+abbrev pub sight_told : Sight → Result Bool Refusal
+sight_told s = judged_as (soonest s.letter s.operand (scan_place s.scan) s.late) s.slowed

@@ -1,14 +1,12 @@
 // What stands at a place of a text, and what a command becomes on the other drive.
-ghost use Rattle.std.specs.Prelude.{◌≡◌, true, cond, ◌&&◌, leb, eqb, ◌≤◌};
-ghost use Rattle.parts.specs.Letters.{byte};
+ghost use Rattle.std.specs.Prelude.{◌≡◌, true, cond, ◌&&◌, leb, ◌≤◌};
 ghost use Rattle.digits.specs.Operand.{operand_at};
-ghost use Rattle.commands.specs.Table.{setting_letter};
 ghost use Rattle.commands.specs.Writing.{in_range};
 ghost use Rattle.older.specs.Older.{both_have, sets_ramp, older_takes, becomes};
 ghost use Rattle.older.specs.Items.{stand_in, past_operand, stands_at};
 ghost use Rattle.older.specs.Pass.{carried_of};
 
-use crate::{Carried, Stands, Way};
+use crate::{Stands, Way};
 use commands::{Act, Command, Read, Setting};
 use digits::Operand;
 
@@ -16,6 +14,7 @@ use digits::Operand;
 pub(crate) fn stands_at(way: Way, text: &[u8], at: usize) -> Stands
     ensures { result ≡ stands_at way text.now at }
 {
+    // By an index: an Option of a reference lies otherwise on a chip, where `chip/pointer-places` refuses it.
     if text.len() <= at {
         return Stands::Ends;
     }
@@ -23,8 +22,7 @@ pub(crate) fn stands_at(way: Way, text: &[u8], at: usize) -> Stands
     if !both_have(letter) {
         return Stands::Lacks;
     }
-    let r = commands::read_command(text, at);
-    match r {
+    match commands::read_command(text, at) {
         Read::At(c, next) => carries(way, letter, c, next),
         Read::Bad(_, _) => Stands::Unfit(stand_in(letter), past_operand(text, at + 1)),
         Read::End => Stands::Ends,
@@ -37,99 +35,91 @@ fn carries(way: Way, letter: u8, c: Command, next: usize) -> Stands
     ensures { result ≡ cond (older_takes way c) (Stands.Carries (becomes way c) next) (Stands.Unfit (stand_in letter) next) }
 {
     match carry(way, c) {
-        Carried::Fit(d) => Stands::Carries(d, next),
-        Carried::NoFit => Stands::Unfit(stand_in(letter), next),
+        Some(d) => Stands::Carries(d, next),
+        None => Stands::Unfit(stand_in(letter), next),
     }
 }
 
 // Whether both drives have a letter.
+#[tactic(auto, unfolding(crate::specs::Older::both_have, crate::specs::Older::older_asks, crate::specs::Older::older_in, crate::specs::Older::older_table, commands::specs::Table::one_of, commands::specs::Table::asks_of, commands::specs::Table::find, commands::specs::Table::table))]
 fn both_have(letter: u8) -> bool
     ensures { result ≡ both_have letter }
 {
-    match letter {
-        b'A' => true,
-        b'P' => true,
-        b'D' => true,
-        b'z' => true,
-        b'Z' => true,
-        b'V' => true,
-        b'L' => true,
-        b'f' => true,
-        b'm' => true,
-        b'h' => true,
-        b'j' => true,
-        b'o' => true,
-        b'J' => true,
-        b'M' => true,
-        b'g' => true,
-        b'G' => true,
-        b'H' => true,
-        b'S' => true,
-        b'e' => true,
-        _ => false,
-    }
+    matches!(
+        letter,
+        b'A' | b'P'
+            | b'D'
+            | b'z'
+            | b'Z'
+            | b'V'
+            | b'L'
+            | b'f'
+            | b'm'
+            | b'h'
+            | b'j'
+            | b'o'
+            | b'J'
+            | b'M'
+            | b'g'
+            | b'G'
+            | b'H'
+            | b'S'
+            | b'e'
+    )
 }
 
 // What a bad command is for the structure: a loop's end or a skip still, else neither.
 fn stand_in(letter: u8) -> Command
     ensures { result ≡ stand_in letter }
 {
-    if letter == b'G' {
-        return Command::LoopEnd(0);
+    match letter {
+        b'G' => Command::LoopEnd(0),
+        b'S' => Command::Skip(0),
+        _ => Command::Jump(0),
     }
-    if letter == b'S' {
-        return Command::Skip(0);
-    }
-    Command::Jump(0)
 }
 
 // The place behind the digits at a place.
 fn past_operand(text: &[u8], at: usize) -> usize
     ensures { result ≡ past_operand at (operand_at text.now at) }
 {
-    let operand = digits::read_operand(text, at);
-    match operand {
+    match digits::read_operand(text, at) {
         Operand::Missing => at,
-        Operand::Number(_, next) => next,
-        Operand::Above(next) => next,
+        Operand::Number(_, next) | Operand::Above(next) => next,
     }
 }
 
-// A command in our range, as the other drive has it: settings alone differ.
-fn carry(way: Way, c: Command) -> Carried
+// A command in our range, as the other drive has it, or None: settings alone differ.
+fn carry(way: Way, c: Command) -> Option<Command>
     requires { in_range c ≡ true }
     ensures { result ≡ carried_of way c }
 {
-    let Command::Plain(a) = c else {
-        return Carried::Fit(c);
-    };
-    let Act::Set(which, n) = a else {
-        return Carried::Fit(c);
-    };
-    carry_setting(way, which, n)
+    match c {
+        Command::Plain(Act::Set(which, n)) => carry_setting(way, which, n),
+        _ => Some(c),
+    }
 }
 
 // A setting: the older drive has other speeds and no step size of 1; no correction is in both ranges; it has no `F` and no `b`.
-fn carry_setting(way: Way, which: Setting, n: u32) -> Carried
+#[tactic(auto, unfolding(crate::specs::Older::older_in_range, crate::specs::Older::older_asks, crate::specs::Older::older_in, crate::specs::Older::older_table, crate::specs::Older::sets_ramp, commands::specs::Table::one_of, commands::specs::Table::within, crate::specs::Older::becomes, commands::specs::Writing::in_range, commands::specs::Table::asks_of, commands::specs::Table::find, commands::specs::Table::table))]
+fn carry_setting(way: Way, which: Setting, n: u32) -> Option<Command>
     requires { in_range (Command.Plain (Act.Set which n)) ≡ true }
     ensures { result ≡ carried_of way (Command.Plain (Act.Set which n)) }
 {
     match which {
         Setting::TopSpeed => carry_from(which, n, 50, 10000, n),
         Setting::Acceleration => carry_ramp(way, n),
-        Setting::FlagLevel => fit(which, n),
-        Setting::Turned => Carried::NoFit,
-        Setting::MoveCurrent => fit(which, n),
-        Setting::HoldCurrent => fit(which, n),
         Setting::StepSize => carry_from(which, n, 2, 256, n),
-        Setting::Correction => Carried::NoFit,
-        Setting::Outputs => fit(which, n),
-        Setting::Baud => Carried::NoFit,
+        Setting::FlagLevel | Setting::MoveCurrent | Setting::HoldCurrent | Setting::Outputs => {
+            fit(which, n)
+        }
+        Setting::Turned | Setting::Correction | Setting::Baud => None,
     }
 }
 
 // The acceleration: 12207 of our units are 15000 of the older drive's.
-fn carry_ramp(way: Way, n: u32) -> Carried
+#[tactic(auto, unfolding(crate::specs::Older::older_in_range, crate::specs::Older::older_asks, crate::specs::Older::older_in, crate::specs::Older::older_table, crate::specs::Older::sets_ramp, commands::specs::Table::one_of, commands::specs::Table::within, crate::specs::Older::becomes))]
+fn carry_ramp(way: Way, n: u32) -> Option<Command>
     requires { n ≤ 65000 }
     ensures { result ≡ carried_of way (Command.Plain (Act.Set Setting.Acceleration n)) }
 {
@@ -143,52 +133,27 @@ fn carry_ramp(way: Way, n: u32) -> Carried
 }
 
 // A setting to n, where the older drive's number lies between two others.
-fn carry_from(which: Setting, older: u32, least: u32, most: u32, n: u32) -> Carried
-    ensures { result ≡ cond (leb least older && leb older most) (Carried.Fit (Command.Plain (Act.Set which n))) Carried.NoFit }
+fn carry_from(which: Setting, older: u32, least: u32, most: u32, n: u32) -> Option<Command>
+    ensures { result ≡ cond (leb least older && leb older most) (Some (Command.Plain (Act.Set which n))) None }
 {
-    if older < least {
-        return Carried::NoFit;
+    if least <= older && older <= most {
+        fit(which, n)
+    } else {
+        None
     }
-    if most < older {
-        return Carried::NoFit;
-    }
-    fit(which, n)
 }
 
 // A setting to n.
-fn fit(which: Setting, n: u32) -> Carried
-    ensures { result ≡ Carried.Fit (Command.Plain (Act.Set which n)) }
+fn fit(which: Setting, n: u32) -> Option<Command>
+    ensures { result ≡ Some (Command.Plain (Act.Set which n)) }
 {
-    Carried::Fit(Command::Plain(Act::Set(which, n)))
+    Some(Command::Plain(Act::Set(which, n)))
 }
 
 // Whether a command sets the acceleration.
+#[tactic(auto, unfolding(crate::specs::Older::sets_ramp))]
 pub(crate) fn is_ramp(c: Command) -> bool
     ensures { result ≡ sets_ramp c }
 {
-    let Command::Plain(a) = c else {
-        return false;
-    };
-    let Act::Set(which, _) = a else {
-        return false;
-    };
-    is_acceleration(which)
-}
-
-// Whether a setting is the acceleration.
-fn is_acceleration(which: Setting) -> bool
-    ensures { result ≡ eqb (setting_letter which) (byte "L") }
-{
-    match which {
-        Setting::TopSpeed => false,
-        Setting::Acceleration => true,
-        Setting::FlagLevel => false,
-        Setting::Turned => false,
-        Setting::MoveCurrent => false,
-        Setting::HoldCurrent => false,
-        Setting::StepSize => false,
-        Setting::Correction => false,
-        Setting::Outputs => false,
-        Setting::Baud => false,
-    }
+    matches!(c, Command::Plain(Act::Set(Setting::Acceleration, _)))
 }

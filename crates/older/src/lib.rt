@@ -10,7 +10,6 @@ ghost use Rattle.older.specs.Items.{TranslatedIs};
 ghost use Rattle.older.specs.Claims.{OlderClaims};
 
 use commands::Command;
-use digits::Written;
 use lines::Scan;
 
 // Which way a text goes.
@@ -23,7 +22,7 @@ pub enum Way {
 }
 
 // Why a text is refused; at one place the first of these.
-#[derive(Clone, Copy)]
+#[derive(Clone, Copy, PartialEq, Eq)]
 pub enum Why {
     // A letter that one of the drives lacks.
     BadLetter,
@@ -35,27 +34,26 @@ pub enum Why {
     PastMost,
 }
 
-// Why, and the place of the first byte, counting from 1; 0 where nothing is refused.
-#[derive(Clone, Copy)]
+// Why, and the place of the first byte, counting from 1.
+#[derive(Clone, Copy, PartialEq, Eq)]
 pub struct Refusal {
     pub why: Why,
     pub place: usize,
 }
 
+// So many bytes at the front of the buffer, and whether a ramp was slowed.
 #[derive(Clone, Copy)]
-pub enum Translated {
-    // So many bytes at the front of the buffer, and whether a ramp was slowed.
-    Text(usize, bool),
+pub struct Translated {
+    pub length: usize,
+    pub slowed: bool,
+}
+
+// Why there is no text.
+#[derive(Clone, Copy, PartialEq, Eq)]
+pub enum NotTranslated {
     Refused(Refusal),
     // The buffer is too short.
     NoRoom,
-}
-
-// A command as the other drive has it.
-#[derive(Clone, Copy)]
-enum Carried {
-    Fit(Command),
-    NoFit,
 }
 
 // What stands at a place of a text.
@@ -72,6 +70,7 @@ enum Stands {
 
 // What a text has shown so far: its structure, the leftmost letter, operand and command past the most (0 where there is none), how many
 // more commands it may have, and whether a ramp was slowed.
+// Places stay numbers, since `lines::left_of`, whose promise may not change, has 0 for none.
 #[derive(Clone, Copy)]
 struct Sight {
     scan: Scan,
@@ -82,47 +81,32 @@ struct Sight {
     slowed: bool,
 }
 
-// How a text is judged.
-#[derive(Clone, Copy)]
-struct Judgement {
-    refusal: Refusal,
-    slowed: bool,
-}
-
 // 25 commands of a letter and ten digits.
 const TEXT_MOST: usize = 275;
 
 // Reads a text of the older drive into ours, at the front of a buffer.
-pub fn into_ours(text: &[u8], buffer: &mut [u8]) -> Translated
+pub fn into_ours(text: &[u8], buffer: &mut [u8]) -> Result<Translated, NotTranslated>
     ensures { TranslatedIs Inward text.now buffer.old result buffer.new }
 {
     translate(Way::Inward, text, buffer)
 }
 
 // Writes a text of ours back for the older drive, at the front of a buffer.
-pub fn for_older(text: &[u8], buffer: &mut [u8]) -> Translated
+pub fn for_older(text: &[u8], buffer: &mut [u8]) -> Result<Translated, NotTranslated>
     ensures { TranslatedIs Outward text.now buffer.old result buffer.new }
 {
     translate(Way::Outward, text, buffer)
 }
 
 // The same, either way.
-fn translate(way: Way, text: &[u8], buffer: &mut [u8]) -> Translated
+fn translate(way: Way, text: &[u8], buffer: &mut [u8]) -> Result<Translated, NotTranslated>
     ensures { TranslatedIs way text.now buffer.old result buffer.new }
 {
-    let judgement = passing::judge(way, text);
-    let refusal = judgement.refusal;
-    if refusal.place != 0 {
-        return Translated::Refused(refusal);
-    }
+    let slowed = passing::judge(way, text).map_err(NotTranslated::Refused)?;
     let mut line = [0u8; TEXT_MOST];
-    let Written::Past(n) = writing::write_text(way, text, &mut line) else {
-        return Translated::NoRoom;
-    };
-    if parts::put_at(buffer, 0, &line[0..n]) {
-        return Translated::Text(n, judgement.slowed);
-    }
-    Translated::NoRoom
+    let n = writing::write_text(way, text, &mut line).ok_or(NotTranslated::NoRoom)?;
+    let length = digits::write_bytes(buffer, 0, &line[..n]).ok_or(NotTranslated::NoRoom)?;
+    Ok(Translated { length, slowed })
 }
 
 // What is claimed of texts that go from one drive to the other.

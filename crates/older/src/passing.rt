@@ -3,12 +3,12 @@ ghost use Rattle.std.specs.Prelude.{◌≡◌};
 ghost use Rattle.older.specs.Items.{items_from, sooner, most_carried, judged_for};
 ghost use Rattle.older.specs.Pass.{item_counted, seen_good, seen_letter, seen_operand, sight_told, first_sight};
 
-use crate::{Judgement, Refusal, Sight, Stands, Way, Why, finding};
+use crate::{Refusal, Sight, Stands, Way, Why, finding};
 use commands::Command;
 use lines::Scan;
 
-// Reads a text to its end, and tells its leftmost fault.
-pub(crate) fn judge(way: Way, text: &[u8]) -> Judgement
+// Reads a text to its end, and tells whether a ramp was slowed, or its leftmost fault.
+pub(crate) fn judge(way: Way, text: &[u8]) -> Result<bool, Refusal>
     ensures { result ≡ judged_for way (items_from way text.now 0) }
 {
     let mut sight = first_sight(way);
@@ -67,47 +67,54 @@ fn most_of(way: Way) -> usize
 fn count_item(s: Sight, place: usize, c: Command) -> Sight
     ensures { result ≡ item_counted s place c }
 {
-    let mut u = s;
-    u.scan = lines::see(s.scan, place, c);
+    let scan = lines::see(s.scan, place, c);
     if s.left == 0 {
-        u.late = lines::left_of(s.late, place);
-        return u;
+        Sight {
+            scan,
+            late: lines::left_of(s.late, place),
+            ..s
+        }
+    } else {
+        Sight {
+            scan,
+            left: s.left - 1,
+            ..s
+        }
     }
-    u.left = s.left - 1;
-    u
 }
 
 // A command that carries over.
 fn see_good(s: Sight, place: usize, c: Command) -> Sight
     ensures { result ≡ seen_good s place c }
 {
-    let mut u = count_item(s, place, c);
-    if finding::is_ramp(c) {
-        u.slowed = true;
+    Sight {
+        slowed: s.slowed || finding::is_ramp(c),
+        ..count_item(s, place, c)
     }
-    u
 }
 
 // A letter that one of the drives lacks.
 fn see_letter(s: Sight, place: usize) -> Sight
     ensures { result ≡ seen_letter s place }
 {
-    let mut u = count_item(s, place, Command::Jump(0));
-    u.letter = lines::left_of(s.letter, place);
-    u
+    Sight {
+        letter: lines::left_of(s.letter, place),
+        ..count_item(s, place, Command::Jump(0))
+    }
 }
 
 // A command with a bad operand.
 fn see_operand(s: Sight, place: usize, c: Command) -> Sight
     ensures { result ≡ seen_operand s place c }
 {
-    let mut u = count_item(s, place, c);
-    u.operand = lines::left_of(s.operand, place);
-    u
+    Sight {
+        operand: lines::left_of(s.operand, place),
+        ..count_item(s, place, c)
+    }
 }
 
 // The leftmost fault at the end of the text; at one place in this order.
-fn tell(s: Sight) -> Judgement
+fn tell(s: Sight) -> Result<bool, Refusal>
     ensures { result ≡ sight_told s }
 {
     let letter = Refusal {
@@ -126,9 +133,11 @@ fn tell(s: Sight) -> Judgement
         why: Why::PastMost,
         place: s.late,
     };
-    Judgement {
-        refusal: sooner(letter, sooner(operand, sooner(structure, late))),
-        slowed: s.slowed,
+    let first = sooner(letter, sooner(operand, sooner(structure, late)));
+    if first.place == 0 {
+        Ok(s.slowed)
+    } else {
+        Err(first)
     }
 }
 
@@ -137,7 +146,8 @@ fn sooner(a: Refusal, b: Refusal) -> Refusal
     ensures { result ≡ sooner a b }
 {
     if a.place == lines::left_of(a.place, b.place) {
-        return a;
+        a
+    } else {
+        b
     }
-    b
 }

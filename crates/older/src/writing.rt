@@ -3,10 +3,10 @@ ghost use Rattle.host.specs.Adding.{AddedIs};
 ghost use Rattle.older.specs.Items.{text_for};
 
 use crate::{Stands, Way, finding};
-use digits::Written;
 
 // Writes them from the first byte of a line on, where they do not pass its end.
-pub(crate) fn write_text(way: Way, text: &[u8], line: &mut [u8]) -> Written
+// `judge` walks the same way: one walk for both would lend each its own state, and be no plainer than the two matches.
+pub(crate) fn write_text(way: Way, text: &[u8], line: &mut [u8]) -> Option<usize>
     ensures { AddedIs line.old 0 (text_for way text.now) result line.new }
 {
     let mut at: usize = 0;
@@ -14,10 +14,7 @@ pub(crate) fn write_text(way: Way, text: &[u8], line: &mut [u8]) -> Written
     loop {
         match finding::stands_at(way, text, at) {
             Stands::Carries(c, next) => {
-                let Written::Past(past) = commands::write_command(line, end, c) else {
-                    return Written::NoRoom;
-                };
-                end = past;
+                end = commands::write_command(line, end, c)?;
                 at = next;
             }
             Stands::Lacks => {
@@ -27,7 +24,7 @@ pub(crate) fn write_text(way: Way, text: &[u8], line: &mut [u8]) -> Written
                 at = next;
             }
             Stands::Ends => {
-                return Written::Past(end);
+                return Some(end);
             }
         }
     }

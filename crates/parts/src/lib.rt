@@ -1,8 +1,8 @@
 // Parts of lent bytes: written where there is room, else left as they were.
 #![tactic(auto)]
 
-ghost use Rattle.std.specs.Prelude.{◌≡◌, length, take, replicate};
-ghost use Rattle.parts.specs.Parts.{part, padded_text, PutIs};
+ghost use Rattle.std.specs.Prelude.{◌≡◌, take, replicate};
+ghost use Rattle.parts.specs.Parts.{part, fits_at, padded_text, PutIs};
 
 // "The body has 0 to 256 bytes."
 const TEXT_BYTES: usize = 256;
@@ -29,10 +29,7 @@ pub fn part(s: &[u8], at: usize, n: usize) -> &[u8]
 pub fn put_at(dst: &mut [u8], at: usize, src: &[u8]) -> bool
     ensures { PutIs dst.old at src.now result dst.new }
 {
-    if dst.len() < at {
-        return false;
-    }
-    if dst.len() - at < src.len() {
+    if !has_room(dst, at, src.len()) {
         return false;
     }
     dst[at..at + src.len()].copy_from_slice(src);
@@ -43,13 +40,10 @@ pub fn put_at(dst: &mut [u8], at: usize, src: &[u8]) -> bool
 pub fn wipe_at(dst: &mut [u8], at: usize, n: usize) -> bool
     ensures { PutIs dst.old at (replicate n 0) result dst.new }
 {
-    if dst.len() < at {
+    if !has_room(dst, at, n) {
         return false;
     }
-    if dst.len() - at < n {
-        return false;
-    }
-    wipe(&mut dst[at..at + n]);
+    dst[at..at + n].fill(0);
     true
 }
 
@@ -67,18 +61,12 @@ pub fn put_text(dst: &mut [u8; TEXT_BYTES], text: &[u8])
     ensures { dst.new ≡ padded_text text.now }
 {
     *dst = [0u8; TEXT_BYTES];
-    if TEXT_BYTES < text.len() {
-        put_at(dst, 0, &text[0..TEXT_BYTES]);
-        return;
-    }
-    put_at(dst, 0, text);
+    put_at(dst, 0, first(text, TEXT_BYTES));
 }
 
-// All bytes become 0.
-fn wipe(s: &mut [u8])
-    ensures { s.new ≡ replicate (length s.old) 0 }
+// Whether n bytes fit dst from place at.
+fn has_room(dst: &[u8], at: usize, n: usize) -> bool
+    ensures { result ≡ fits_at dst.now at n }
 {
-    for i in 0..s.len() {
-        s[i] = 0;
-    }
+    at <= dst.len() && n <= dst.len() - at
 }

@@ -6,6 +6,7 @@ use native.Mathlib.Nat.{lt_irrefl, le_refl, le_trans, le_antisymm, lt_of_not-le,
 use native.Mathlib.Omega.{arith}
 use mathlib.Core.Bool.{Bool, true, false, not, cond}
 use lib.Dec.{T, leb, leb→le, nleb→lt, lit≤}
+use Rattle.std.specs.Prelude.{Option, Some, None}
 use Rattle.ramp.specs.Ranges.{top_v, top_l, top_n, Within, Accepted}
 use Rattle.ramp.specs.Peak.{double_unit, greatest, Greatest, peak_of, IsPeak}
 
@@ -50,17 +51,14 @@ pub square_le : {x : ℕ} → x ≤ top_v → x * x ≤ top_v * top_v
 square_le h = mul-le-mul h h
 
 -- ---- the peak of any move
-pub peak_is : (v l : ℕ) (endless : Bool) (n : ℕ) → IsPeak v l endless n (peak_of v l endless n)
-unfolding peak_of
-peak_is v l true n = refl
-peak_is v l false n = greatest_is v (double_unit * l * n)
+pub peak_is : (v l : ℕ) (n : Option ℕ) → IsPeak v l n (peak_of v l n)
+peak_is v l None = refl
+peak_is v l (Some n) = greatest_is v (double_unit * l * n)
 
-pub peak-only : (v l : ℕ) (endless : Bool) (n q : ℕ) → IsPeak v l endless n q → q ≡ peak_of v l endless n
-unfolding peak_of
-peak-only v l true n q e = e
-peak-only v l false n q g = only_one g (greatest_is v (double_unit * l * n))
+pub peak-only : (v l : ℕ) (n : Option ℕ) (q : ℕ) → IsPeak v l n q → q ≡ peak_of v l n
+peak-only v l None q e = e
+peak-only v l (Some n) q g = only_one g (greatest_is v (double_unit * l * n))
 
-pub peak-within : (v l : ℕ) (endless : Bool) (n : ℕ) → Accepted v l endless n → Within 1 top_v (peak_of v l endless n)
-unfolding peak_of
-peak-within v l true n a = a.within_v
-peak-within v l false n a = finite-within a.within_v a.within_l (a.within_n refl)
+pub peak-within : (v l : ℕ) (n : Option ℕ) → Accepted v l n → Within 1 top_v (peak_of v l n)
+peak-within v l None a = a.within_v
+peak-within v l (Some n) a = finite-within a.within_v a.within_l a.within_n

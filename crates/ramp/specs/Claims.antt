@@ -1,21 +1,21 @@
 -- What readers are to believe of the ramp figures, whatever V, L and N are. 01, "Ramp figures", "What comes back", K14.
 -- Statements only: they are the promise of `ramp_claims`. Assumes nothing.
-use Rattle.std.specs.Prelude.{ℕ, ◌+◌, ◌*◌, ◌≤◌, ◌<◌, Bool, false, ◌||◌, ◌↔◌, ◌≡◌, T, Float}
+use Rattle.std.specs.Prelude.{ℕ, ◌+◌, ◌*◌, ◌≤◌, ◌<◌, false, ◌||◌, ◌↔◌, ◌≡◌, T, Float, Option, Some, Result, Err, IsOk, IsErr, IsOkAnd, IfOk}
 use Rattle.std.specs.Float.{binary64}
 use Rattle.std.specs.Float.Ieee.{round, div, lt, le, is_nan}
 use Rattle.std.specs.Float.Ieee.Exact.{HasValue}
 use Rattle.std.specs.Float.Ieee.Scale.{finite}
-use Rattle.ramp.specs.declared.Verdict.{Verdict}
-use Rattle.ramp.specs.declared.Verdict.TheVariants.{Taken, RefusedV, RefusedL, RefusedN}
+use Rattle.ramp.specs.declared.Refused.{Refused}
+use Rattle.ramp.specs.declared.Refused.TheVariants.{V, L, N}
 use Rattle.ramp.specs.declared.Figures.{Figures}
-use Rattle.ramp.specs.Ranges.{top_v, top_l, top_n, Within, Outside, Accepted}
+use Rattle.ramp.specs.Ranges.{top_v, top_l, Within, Outside, NOutside, Accepted}
 use Rattle.ramp.specs.Peak.{double_unit, peak_of, IsPeak}
-use Rattle.ramp.specs.Ramp.{zero64, time_of, figures_of}
+use Rattle.ramp.specs.Ramp.{zero64, time_of, told_of, figures_of}
 
 -- "peak is the greatest whole v ..", and no other number is; "v² / (12207·L) rounded down". No float stands here.
-pub record WholeFigures (v l : ℕ) (endless : Bool) (n : ℕ) (f : Figures) : Type 0 where
-  pub peak : IsPeak v l endless n f.peak
-  pub only : (q : ℕ) → IsPeak v l endless n q → q ≡ f.peak
+pub record WholeFigures (v l : ℕ) (n : Option ℕ) (f : Figures) : Type 0 where
+  pub peak : IsPeak v l n f.peak
+  pub only : (q : ℕ) → IsPeak v l n q → q ≡ f.peak
   pub reached : f.distance * (double_unit * l) ≤ f.peak * f.peak
   pub rounded_down : f.peak * f.peak < (f.distance + 1) * (double_unit * l)
 
@@ -45,43 +45,40 @@ pub record AllZero (f : Figures) : Type 0 where
   pub time : f.floats.time ≡ zero64
 
 -- "named refusal, all figures 0"
-pub record Refused (f : Figures) : Type 0 where
-  pub named : f.verdict ≡ Taken → ⊥
-  pub zero : AllZero f
+pub record NamedRefusal (r : Result Figures Refused) : Type 0 where
+  pub named : IsErr r
+  pub zero : AllZero (told_of r)
 
 -- An acceleration of 0 once made a time that was not a number; every guard on it compared false, and it had set the steps.
 -- No figures that are taken hold such a time, nor a peak or distance made from it; a guard always says one or the other.
-pub record NoBadTime (v l : ℕ) (endless : Bool) (n : ℕ) (f : Figures) : Type 0 where
-  pub time : f.verdict ≡ Taken → GoodTime f.floats.time
-  pub steps : f.verdict ≡ Taken → WholeFigures v l endless n f
-  pub guard : (limit : Float) → is_nan limit ≡ false → T (lt limit f.floats.time || le f.floats.time limit)
+pub record NoBadTime (v l : ℕ) (n : Option ℕ) (r : Result Figures Refused) : Type 0 where
+  pub time : IfOk r (λ f. GoodTime f.floats.time)
+  pub steps : IfOk r (λ f. WholeFigures v l n f)
+  pub guard : (limit : Float) → is_nan limit ≡ false → T (lt limit (told_of r).floats.time || le (told_of r).floats.time limit)
 
--- "V, then L, then N outside the ranges of this paper": when each verdict is given
-abbrev pub When : Verdict → ℕ → ℕ → Bool → ℕ → Type 0
-When Taken v l endless n = Accepted v l endless n
-When RefusedV v l endless n = Outside 1 top_v v
-When RefusedL v l endless n = Within 1 top_v v × Outside 1 top_l l
-When RefusedN v l endless n = Within 1 top_v v × Within 1 top_l l × (endless ≡ false) × Outside 1 top_n n
+-- "V, then L, then N outside the ranges of this paper": when each refusal is given
+abbrev pub When : Refused → ℕ → ℕ → Option ℕ → Type 0
+When V v l n = Outside 1 top_v v
+When L v l n = Within 1 top_v v × Outside 1 top_l l
+When N v l n = Within 1 top_v v × Within 1 top_l l × NOutside n
 
--- each verdict exactly when, and each but "taken" is a refusal
-pub record Verdicts (v l : ℕ) (endless : Bool) (n : ℕ) (f : Figures) : Type 0 where
-  pub exactly-when : (verdict : Verdict) → (f.verdict ≡ verdict) ↔ When verdict v l endless n
-  pub refused : (f.verdict ≡ Taken → ⊥) → Refused f
+-- taken, and each refusal, exactly when
+pub record Verdicts (v l : ℕ) (n : Option ℕ) (r : Result Figures Refused) : Type 0 where
+  pub taken : IsOk r ↔ Accepted v l n
+  pub exactly-when : (why : Refused) → (r ≡ Err why) ↔ When why v l n
+  pub refused : IsErr r → NamedRefusal r
 
 pub record RampClaims : Type 0 where
   -- the peak is the greatest and the only one, and the distance is rounded down
-  pub whole : (v l : ℕ) (endless : Bool) (n : ℕ) → Accepted v l endless n
-      → WholeFigures v l endless n (figures_of v l endless n)
+  pub whole : (v l : ℕ) (n : Option ℕ) → Accepted v l n → IsOkAnd (figures_of v l n) (λ f. WholeFigures v l n f)
   -- nothing is rounded in speed and acceleration
-  pub exact : (v l : ℕ) (endless : Bool) (n : ℕ) → Accepted v l endless n
-      → ExactFloats l (figures_of v l endless n)
+  pub exact : (v l : ℕ) (n : Option ℕ) → Accepted v l n → IsOkAnd (figures_of v l n) (λ f. ExactFloats l f)
   -- time is rounded once
-  pub time : (v l : ℕ) (endless : Bool) (n : ℕ) → Accepted v l endless n
-      → OneQuotient l (figures_of v l endless n)
+  pub time : (v l : ℕ) (n : Option ℕ) → Accepted v l n → IsOkAnd (figures_of v l n) (λ f. OneQuotient l f)
   -- no input at all has a bad time, and L 0 is refused
-  pub no_bad-time : (v l : ℕ) (endless : Bool) (n : ℕ) → NoBadTime v l endless n (figures_of v l endless n)
-  pub l_0 : (v : ℕ) (endless : Bool) (n : ℕ) → Refused (figures_of v 0 endless n)
+  pub no_bad-time : (v l : ℕ) (n : Option ℕ) → NoBadTime v l n (figures_of v l n)
+  pub l_0 : (v : ℕ) (n : Option ℕ) → NamedRefusal (figures_of v 0 n)
   -- 'Testing a computed time with "greater than": a not-a-number slips by': by every limit, were L 0 not refused
-  pub slips_by : (v n : ℕ) (limit : Float) → lt limit (time_of (peak_of v 0 false n) 0) ≡ false
-  -- each verdict exactly when 01 says
-  pub outcome : (v l : ℕ) (endless : Bool) (n : ℕ) → Verdicts v l endless n (figures_of v l endless n)
+  pub slips_by : (v n : ℕ) (limit : Float) → lt limit (time_of (peak_of v 0 (Some n)) 0) ≡ false
+  -- each outcome exactly when 01 says
+  pub outcome : (v l : ℕ) (n : Option ℕ) → Verdicts v l n (figures_of v l n)

@@ -1,6 +1,6 @@
--- The peak of a move at top speed v and acceleration l, of n microsteps or endless. 01, "Ramp figures".
+-- The peak of a move at top speed v and acceleration l, of n microsteps or, for None, endless. 01, "Ramp figures".
 -- Assumes nothing.
-use Rattle.std.specs.Prelude.{ℕ, zero, suc, ◌*◌, ◌≤◌, Bool, true, false, cond, ◌≡◌, leb}
+use Rattle.std.specs.Prelude.{ℕ, zero, suc, ◌*◌, ◌≤◌, cond, ◌≡◌, leb, Option, Some, None}
 
 -- 12207, which is twice the 6103.5 of one L
 abbrev pub double_unit : ℕ
@@ -18,10 +18,11 @@ pub record Greatest (v room peak : ℕ) : Type 0 where
   pub most : (q : ℕ) → q ≤ v → 2 * (q * q) ≤ room → q ≤ peak
 
 -- "For a finite move of N ≥ 1, peak is the greatest ..; for an endless one it is V"
-unfoldable pub peak_of : ℕ → ℕ → Bool → ℕ → ℕ
-peak_of v l endless n = cond endless v (greatest v (double_unit * l * n))
+abbrev pub peak_of : ℕ → ℕ → Option ℕ → ℕ
+peak_of v l None = v
+peak_of v l (Some n) = greatest v (double_unit * l * n)
 
 -- the same, as a statement on a peak
-abbrev pub IsPeak : ℕ → ℕ → Bool → ℕ → ℕ → Type 0
-IsPeak v l true n peak = peak ≡ v
-IsPeak v l false n peak = Greatest v (double_unit * l * n) peak
+abbrev pub IsPeak : ℕ → ℕ → Option ℕ → ℕ → Type 0
+IsPeak v l None peak = peak ≡ v
+IsPeak v l (Some n) peak = Greatest v (double_unit * l * n) peak

@@ -1,13 +1,14 @@
 -- The ramp figures, and their row of the table of outcomes. 01, "Ramp figures", "What comes back".
 -- Assumes nothing.
-use Rattle.std.specs.Prelude.{ℕ, ◌*◌, ◌/◌, Bool, false, cond, not, ◌&&◌, pos, negsuc, Float}
+use Rattle.std.specs.Prelude.{ℕ, ◌*◌, ◌/◌, false, cond, pos, negsuc, Float, Option, Result, Ok, Err}
 use Prim.Native.String.{String}
 use Rattle.std.specs.Float.Ieee as Ieee
 use Rattle.std.specs.Float.{fin, binary64}
-use Rattle.ramp.specs.declared.Verdict.{Verdict}
-use Rattle.ramp.specs.declared.Verdict.TheVariants.{Taken, RefusedV, RefusedL, RefusedN}
+use Rattle.std.specs.Result.{result_unwrap_or}
+use Rattle.ramp.specs.declared.Refused.{Refused}
+use Rattle.ramp.specs.declared.Refused.TheVariants.{V, L, N}
 use Rattle.ramp.specs.declared.Figures.{Figures}
-use Rattle.ramp.specs.Ranges.{top_v, top_l, top_n, outside}
+use Rattle.ramp.specs.Ranges.{top_v, top_l, outside, n_outside}
 use Rattle.ramp.specs.Peak.{double_unit, peak_of}
 
 -- "6103.5": 12207 halved
@@ -36,39 +37,41 @@ distance_of peak l = peak * peak / (double_unit * l)
 -- the figures of a move that reaches a peak
 unfoldable pub peak_figures : ℕ → ℕ → Figures
 peak_figures peak l = record {
-  verdict = Taken;
   peak = peak;
   distance = distance_of peak l;
   floats = record { speed = speed_of peak; acceleration = acceleration_of l; time = time_of peak l };
 }
 
--- "named refusal, all figures 0"
-unfoldable pub refused_of : Verdict → Figures
-refused_of verdict = record {
-  verdict = verdict;
-  peak = 0;
-  distance = 0;
-  floats = record { speed = zero64; acceleration = zero64; time = zero64 };
-}
-
 -- "ramp: V, then L, then N outside the ranges of this paper"
-unfoldable pub figures_of : ℕ → ℕ → Bool → ℕ → Figures
-figures_of v l endless n =
-    cond (outside 1 top_v v) (refused_of RefusedV)
-    (cond (outside 1 top_l l) (refused_of RefusedL)
-    (cond (not endless && outside 1 top_n n) (refused_of RefusedN)
-    (peak_figures (peak_of v l endless n) l)))
+unfoldable pub figures_of : ℕ → ℕ → Option ℕ → Result Figures Refused
+figures_of v l n =
+    cond (outside 1 top_v v) (Err V)
+    (cond (outside 1 top_l l) (Err L)
+    (cond (n_outside n) (Err N)
+    (Ok (peak_figures (peak_of v l n) l))))
 
--- the number of each name for C: 0 taken, 1 V, 2 L, 3 N outside its range
-abbrev pub verdict_number : Verdict → ℕ
-verdict_number Taken = 0
-verdict_number RefusedV = 1
-verdict_number RefusedL = 2
-verdict_number RefusedN = 3
+-- "all figures 0"
+unfoldable pub no_figures : Figures
+no_figures = record { peak = 0; distance = 0; floats = record { speed = zero64; acceleration = zero64; time = zero64 } }
+
+-- the figures that are told: "named refusal, all figures 0"
+abbrev pub told_of : Result Figures Refused → Figures
+told_of r = result_unwrap_or r no_figures
+
+-- the number of each refusal for C: 1 V, 2 L, 3 N outside its range
+abbrev pub refused_number : Refused → ℕ
+refused_number V = 1
+refused_number L = 2
+refused_number N = 3
+
+-- and of each outcome: 0 taken
+abbrev pub verdict_number : Result Figures Refused → ℕ
+verdict_number (Ok f) = 0
+verdict_number (Err r) = refused_number r
 
 -- and the name: "V, then L, then N outside the ranges"
-abbrev pub verdict_name : Verdict → String
-verdict_name Taken = "taken"
-verdict_name RefusedV = "V outside its range"
-verdict_name RefusedL = "L outside its range"
-verdict_name RefusedN = "N outside its range"
+abbrev pub verdict_name : Result Figures Refused → String
+verdict_name (Ok f) = "taken"
+verdict_name (Err V) = "V outside its range"
+verdict_name (Err L) = "L outside its range"
+verdict_name (Err N) = "N outside its range"

@@ -1,6 +1,6 @@
 -- The ranges of V, L and N that the ramp figures ask for. 01, "Lines" (table) and "Ramp figures".
 -- Assumes nothing.
-use Rattle.std.specs.Prelude.{ℕ, ◌≤◌, Bool, false, ◌||◌, ◌≡◌, ltb}
+use Rattle.std.specs.Prelude.{ℕ, ◌≤◌, Bool, false, ◌||◌, ltb, Option, Some, None}
 
 -- "`V` | 1 to 16777216 (house: 0 refused)"
 abbrev pub top_v : ℕ
@@ -25,8 +25,21 @@ Within low top x = (low ≤ x) × (x ≤ top)
 abbrev pub Outside : ℕ → ℕ → ℕ → Type 0
 Outside low top x = Within low top x → ⊥
 
--- V, L and N in their ranges; "endless, where N is not looked at"
-pub record Accepted (v l : ℕ) (endless : Bool) (n : ℕ) : Type 0 where
+-- the same of an N: "endless, where N is not looked at"
+abbrev pub n_outside : Option ℕ → Bool
+n_outside None = false
+n_outside (Some n) = outside 1 top_n n
+
+abbrev pub NWithin : Option ℕ → Type 0
+NWithin None = Unit
+NWithin (Some n) = Within 1 top_n n
+
+abbrev pub NOutside : Option ℕ → Type 0
+NOutside None = ⊥
+NOutside (Some n) = Outside 1 top_n n
+
+-- V, L and N in their ranges
+pub record Accepted (v l : ℕ) (n : Option ℕ) : Type 0 where
   pub within_v : Within 1 top_v v
   pub within_l : Within 1 top_l l
-  pub within_n : endless ≡ false → Within 1 top_n n
+  pub within_n : NWithin n

@@ -3,16 +3,15 @@
 ghost use Rattle.std.specs.Prelude.{◌≡◌, ◌+◌, ◌*◌, ◌/◌, ◌^◌, min, ◌≤◌, ◌<◌};
 ghost use Rattle.ramp.specs.Ranges.{top_v, top_l, top_n, outside, Within};
 ghost use Rattle.ramp.specs.Peak.{double_unit, greatest};
-ghost use Rattle.ramp.specs.Ramp.{verdict_number, refused_of, peak_figures, figures_of};
+ghost use Rattle.ramp.specs.Ramp.{verdict_number, peak_figures, told_of, figures_of};
 ghost use Rattle.ramp.specs.Claims.{RampClaims};
 
-// Whether the figures stand, or which of V, L and N is outside its range.
-#[derive(Clone, Copy)]
-pub enum Verdict {
-    Taken,
-    RefusedV,
-    RefusedL,
-    RefusedN,
+// Which of V, L and N is outside its range.
+#[derive(Clone, Copy, PartialEq, Eq)]
+pub enum Refused {
+    V,
+    L,
+    N,
 }
 
 // The ramp record: exact speed and acceleration, and their one rounded quotient.
@@ -26,7 +25,6 @@ pub struct RampRecord {
 // The ramp figures: the peak and the ramp distance are whole numbers.
 #[derive(Clone, Copy)]
 pub struct Figures {
-    pub verdict: Verdict,
     pub peak: u32,
     pub distance: u64,
     pub floats: RampRecord,
@@ -44,53 +42,49 @@ const UNIT: f64 = 6103.5;
 
 const DOUBLE_UNIT: u64 = 12207;
 
-// The ramp figures at top speed V and acceleration L, of a move of N microsteps or of an endless one.
-pub fn ramp(v: u32, l: u32, endless: bool, n: u32) -> Figures
-    ensures { result ≡ figures_of v l endless n }
+// The ramp figures at top speed V and acceleration L, of a move of N microsteps or, for None, of an endless one.
+pub fn ramp(v: u32, l: u32, n: Option<u32>) -> Result<Figures, Refused>
+    ensures { result ≡ figures_of v l n }
 {
     if outside(1, TOP_V, v) {
-        return refused(Verdict::RefusedV);
+        return Err(Refused::V);
     }
     if outside(1, TOP_L, l) {
-        return refused(Verdict::RefusedL);
+        return Err(Refused::L);
     }
-    if endless {
-        return taken(v, l);
-    }
+    let Some(n) = n else {
+        return Ok(taken(v, l));
+    };
     if outside(1, TOP_N, n) {
-        return refused(Verdict::RefusedN);
+        return Err(Refused::N);
     }
-    taken(finite_peak(v, l, n), l)
+    Ok(taken(finite_peak(v, l, n), l))
 }
 
-// The number of a verdict for C.
-pub fn code(verdict: Verdict) -> u32
-    ensures { result ≡ verdict_number verdict }
-{
-    match verdict {
-        Verdict::Taken => 0,
-        Verdict::RefusedV => 1,
-        Verdict::RefusedL => 2,
-        Verdict::RefusedN => 3,
-    }
-}
-
-// Whether x is outside low to top.
+// Whether x is outside low to top: two comparisons, since the ends of a range that is asked would stand in memory, where the chip's check of places loses them.
 fn outside(low: u32, top: u32, x: u32) -> bool
     ensures { result ≡ outside low top x }
 {
-    if x < low {
-        return true;
-    }
-    top < x
+    x < low || top < x
 }
 
-// A refusal: all figures 0.
-fn refused(verdict: Verdict) -> Figures
-    ensures { result ≡ refused_of verdict }
+// The number of an outcome, for the C interface: 0 where the figures stand, else that of the refusal.
+pub fn code(figures: Result<Figures, Refused>) -> u32
+    ensures { result ≡ verdict_number figures }
 {
-    Figures {
-        verdict: verdict,
+    match figures {
+        Ok(_) => 0,
+        Err(Refused::V) => 1,
+        Err(Refused::L) => 2,
+        Err(Refused::N) => 3,
+    }
+}
+
+// The figures that are told: of a refusal all 0.
+pub fn told(figures: Result<Figures, Refused>) -> Figures
+    ensures { result ≡ told_of figures }
+{
+    figures.unwrap_or(Figures {
         peak: 0,
         distance: 0,
         floats: RampRecord {
@@ -98,7 +92,7 @@ fn refused(verdict: Verdict) -> Figures
             acceleration: 0.0,
             time: 0.0,
         },
-    }
+    })
 }
 
 // The figures of a move that reaches a peak.
@@ -106,19 +100,17 @@ fn taken(peak: u32, l: u32) -> Figures
     requires { Within 1 top_v peak × Within 1 top_l l }
     ensures { result ≡ peak_figures peak l }
 {
+    // 01's form: exact casts, one exact product, one division.
     let speed = peak as f64;
-    let acceleration = (l as f64) * UNIT;
-    let time = speed / acceleration;
-    let wide = peak as u64;
-    let distance = wide * wide / (DOUBLE_UNIT * (l as u64));
+    let acceleration = l as f64 * UNIT;
+    let wide = u64::from(peak);
     Figures {
-        verdict: Verdict::Taken,
-        peak: peak,
-        distance: distance,
+        peak,
+        distance: wide * wide / (DOUBLE_UNIT * u64::from(l)),
         floats: RampRecord {
-            speed: speed,
-            acceleration: acceleration,
-            time: time,
+            speed,
+            acceleration,
+            time: speed / acceleration,
         },
     }
 }
@@ -128,8 +120,8 @@ fn finite_peak(v: u32, l: u32, n: u32) -> u32
     requires { Within 1 top_v v × Within 1 top_l l × Within 1 top_n n }
     ensures { result ≡ greatest v (double_unit * l * n) }
 {
-    let room = DOUBLE_UNIT * (l as u64) * (n as u64);
-    greatest_under(v as u64, room) as u32
+    let room = DOUBLE_UNIT * u64::from(l) * u64::from(n);
+    greatest_under(u64::from(v), room) as u32
 }
 
 // The greatest whole p up to v with 2 p² ≤ room: v itself in a long move, else down to it by Newton's steps for a root.
@@ -141,7 +133,7 @@ fn greatest_under(v: u64, room: u64) -> u64
         return v;
     }
     let square = room / 2;
-    let mut peak = least(v, step(guess(square), square));
+    let mut peak = v.min(step(guess(square), square));
     while room < 2 * (peak * peak) {
         peak = step(peak, square);
     }
@@ -160,17 +152,7 @@ fn step(x: u64, square: u64) -> u64
 fn guess(square: u64) -> u64
     ensures { (0 < result) × (result ≤ 2 ^ 32) }
 {
-    1u64 << ((64 - u64::leading_zeros(square)) / 2)
-}
-
-// The smaller of two numbers.
-fn least(a: u64, b: u64) -> u64
-    ensures { result ≡ min a b }
-{
-    if a < b {
-        return a;
-    }
-    b
+    1u64 << ((64 - square.leading_zeros()) / 2)
 }
 
 // What readers are to believe of the figures, whatever V, L and N are.

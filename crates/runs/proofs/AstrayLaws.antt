@@ -1,9 +1,12 @@
 -- A sound unit never goes astray. Assumes nothing.
 use Prim.Native.Nat.{ℕ, ◌≤◌}
-use mathlib.Core.Bool.{Bool, true, false, false≢true}
+use Rattle.std.specs.Prelude.{Option, Some, None}
+use mathlib.Core.Path.{◌≡◌}
+use mathlib.Core.Bool.{Bool, true, false}
 use native.Mathlib.Omega.{arith}
 use Rattle.lines.proofs.LoopLaws.{lawful}
 use Rattle.lines.proofs.FewLaws.{checked-few}
+use Rattle.flow.specs.declared.Flow.{Flow}
 use Rattle.flow.proofs.FlowLaws.{depth_most, exactly, no_fault_lem, begin_goes, end_goes}
 use Rattle.motor.specs.Motion.{room, counted, reported}
 use Rattle.motor.proofs.MotorLaws.{nothing-cut}
@@ -20,12 +23,15 @@ unfolding room
 counted-whole true p steps h = counted-up p steps h
 counted-whole false p steps h = omega (arith, counted-down p steps h)
 
+some_not_none : {f : Flow} → ◌≡◌ {A = Option Flow} (Some f) None → ⊥
+some_not_none e = cc
+
 module _ (u : Drive) (h : SoundUnit u) where
   -- a checked text comes to none of it
   pub not-astray : (sample : ℕ) → Strays sample (text_of u) u.core → ⊥
   not-astray sample (bad_read k p r) = no_fault_lem h.flow r.stands
-  not-astray sample (too_deep next r q) = false≢true (rw (begin_goes h.flow r.stands) at q)
-  not-astray sample (none_open n next r q) = false≢true (rw (end_goes h.flow r.stands) at q)
+  not-astray sample (too_deep next r q) = some_not_none (rw (begin_goes h.flow r.stands) at q)
+  not-astray sample (none_open n next r q) = some_not_none (rw (end_goes h.flow r.stands) at q)
   not-astray sample (skips-bad digits next k p r l e) = rw (r.stands, e) at (lawful h.flow.checked h.flow.place)
   not-astray sample (skips-end digits next r l e) = rw (r.stands, e) at (lawful h.flow.checked h.flow.place)
 

@@ -1,4 +1,5 @@
 -- A call ends the run of a sound unit for a cause of 01, and each cause ends it with its code. Assumes nothing.
+use Rattle.std.specs.Prelude.{Ok}
 use Prim.Native.Nat.{ℕ}
 use mathlib.Core.Path.{◌≡◌, refl, sym, subst, ◌∙◌}
 use mathlib.Core.List.{List}
@@ -31,7 +32,7 @@ use Rattle.runs.proofs.AstrayLaws.{not-astray}
 module _ (c : Core) (h : c.running ≡ true) where
   -- of all deeds `T` alone ends a run, and the held code is as it was
   obeys_only : {body : List ℕ} {o : Obeyed} → Obeys body c o → o.core.running ≡ false
-      → (body_of body ≡ Body.Immediate Terminate) × (o.core.code ≡ c.code)
+      → (body_of body ≡ Ok (Body.Immediate Terminate)) × (o.core.code ≡ c.code)
   unfolding ended
   obeys_only (refuses f l p) q = clash h q
   obeys_only (tells t l) q = clash h q
@@ -44,7 +45,7 @@ module _ (c : Core) (h : c.running ≡ true) where
   obeys_only (loads run n r l) q = clash h r
 
   -- each body `T` ends it, the held code as it was
-  body-ends : (body : List ℕ) → body_of body ≡ Body.Immediate Terminate → ((body_obeyed body c).core.running ≡ false) × ((body_obeyed body c).core.code ≡ c.code)
+  body-ends : (body : List ℕ) → body_of body ≡ Ok (Body.Immediate Terminate) → ((body_obeyed body c).core.running ≡ false) × ((body_obeyed body c).core.code ≡ c.code)
   unfolding body_obeyed ended
   body-ends body t = rw (t, h) (refl, refl)
 

@@ -1,4 +1,5 @@
 -- A call of a running unit that takes no command leaves the text and the place in it. Assumes nothing.
+use Rattle.std.specs.Prelude.{Ok, Err, None}
 use Prim.Native.Nat.{ℕ}
 use mathlib.Core.Path.{◌≡◌, refl, sym, subst}
 use mathlib.Core.List.{List}
@@ -7,11 +8,8 @@ use Rattle.commands.specs.declared.Command.{Command}
 use Rattle.commands.specs.declared.Read.{Read}
 use Rattle.commands.specs.declared.Read.TheVariants.{At, Bad, End}
 use Rattle.commands.specs.Reading.{read_at}
-use Rattle.motor.specs.declared.Moved.{Moved}
-use Rattle.motor.specs.declared.Moved.TheVariants.{Goes, Stops}
-use Rattle.motor.specs.Motion.{reported, served, is_free}
+use Rattle.motor.specs.Motion.{reported, served, is_free, Moved}
 use Rattle.turns.specs.declared.Core.{Core}
-use Rattle.turns.specs.declared.Enter.TheVariants.{Stay}
 use Rattle.turns.specs.declared.Stepped.{Stepped}
 use Rattle.turns.specs.Turns.{with_motor, ended, astray, moved, read_taken, step_of, turn_core, text_after}
 use Rattle.turns.specs.Ends.{Reads}
@@ -32,11 +30,11 @@ Same text c text' c' = (text' ≡ text) × (c'.flow ≡ c.flow)
 
 pub moved-flow : (m : Moved) (c : Core) → (moved m c).flow ≡ c.flow
 unfolding ended
-moved-flow (Goes m) c = refl
-moved-flow (Stops k) c = refl
+moved-flow (Ok m) c = refl
+moved-flow (Err k) c = refl
 
 abbrev Stayed : Core → Stepped → Type 0
-Stayed c s = (s.core.flow ≡ c.flow) × (s.enter ≡ Stay)
+Stayed c s = (s.core.flow ≡ c.flow) × (s.enter ≡ None)
 
 step_stays : (sample ms steps : ℕ) (t image : List ℕ) (c : Core) → c.running ≡ true
     → ((d : Command) (next : ℕ) → Reads t c (At d next) → ⊥) → Stayed c (step_of sample ms steps t image c)

@@ -1,4 +1,5 @@
 -- A run goes as its course says: a command taken is the next of it, and every other call leaves it. Assumes nothing.
+use Rattle.std.specs.Prelude.{Option}
 use Prim.Native.Nat.{ℕ, zero, suc, ◌+◌}
 use mathlib.Core.Path.{◌≡◌, refl, sym, ap, subst, ◌∙◌}
 use mathlib.Core.List.{List, [], ◌∷◌, ◌++◌}
@@ -16,7 +17,6 @@ use Rattle.courses.proofs.CourseLaws.{text_course}
 use Rattle.courses.proofs.SteadyLaws.{costs, commands-append, commands-length, one_way, in_order}
 use Rattle.courses.proofs.StandLaws.{Open, Next, back, on, stands-now, stands-last, next-stands}
 use Rattle.courses.proofs.FlowLaws.{loops_of, Taken, begun-taken}
-use Rattle.turns.specs.declared.Enter.{Enter}
 use Rattle.turns.specs.Turns.{with_motor, text_after}
 use Rattle.turns.specs.Ends.{Reads}
 use Rattle.drive.specs.Unit.{Drive}
@@ -60,7 +60,7 @@ turn_still_lem {whole} {xs} v sample ms steps image d n h m r j s =
     let g = command-goes image (with_motor (reported sample steps v.core.motor) v.core) d n s.ok r.stands j q in
     let f = sym (ap (λ (u : Drive). u.core.flow) x) in
     let ok : FlowOk t w.core.flow = subst (FlowOk t) f g.ok in
-    let same : w.text ≡ v.text = ap (λ (u : Drive). u.text) x ∙ ap (λ (e : Enter). text_after e v.text image) g.stays in
+    let same : w.text ≡ v.text = ap (λ (u : Drive). u.text) x ∙ ap (λ (e : Option ℕ). text_after e v.text image) g.stays in
     record {
       text = ap (λ (l : List ℕ). take w.core.flow.length l) same ∙ ap (λ (k : ℕ). take k v.text) (ok.length ∙ sym s.ok.length);
       ok = ok;

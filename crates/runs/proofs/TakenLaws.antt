@@ -1,4 +1,5 @@
 -- A command taken in a turn is the next of the run. Assumes nothing.
+use Rattle.std.specs.Prelude.{None}
 use Prim.Native.Nat.{ℕ, ◌<◌}
 use mathlib.Core.Path.{◌≡◌, refl, sym, ap, subst}
 use mathlib.Core.List.{List}
@@ -25,7 +26,6 @@ use Rattle.courses.specs.Meaning.{Course, Step}
 use Rattle.courses.proofs.StandLaws.{Skipped, Next}
 use Rattle.courses.proofs.FlowLaws.{loops_of, Taken, opened-taken, closed-taken}
 use Rattle.turns.specs.declared.Core.{Core}
-use Rattle.turns.specs.declared.Enter.TheVariants.{Stay}
 use Rattle.turns.specs.declared.Stepped.{Stepped}
 use Rattle.turns.specs.Turns.{with_flow, with_motor, acted, skip_taken, stays, command_taken, skipped as skippedTo}
 use Rattle.turns.specs.Ends.{Reads}
@@ -57,15 +57,14 @@ plain-goes-on u a next sample ms steps image h m r =
       text_same = ap (λ (f : Flow). take f.length u.text) e;
       place = ap (λ (f : Flow). f.at) e;
       depth_same = ap (λ (f : Flow). f.depth) e;
-      starts-same = ap (λ (f : Flow). f.starts) e;
-      rounds_same = ap (λ (f : Flow). f.dones) e;
+      loops_same = ap (λ (f : Flow). f.loops) e;
     })
 
 -- the flow stays in its text, and xs has been taken
 pub record Goes (t : List ℕ) (whole : Course) (xs : List Step) (s : Stepped) : Type 0 where
   pub ok : FlowOk t s.core.flow
   pub took : Taken t whole xs s.core.flow
-  pub stays : s.enter ≡ Stay
+  pub stays : s.enter ≡ None
 
 -- `S` skips, or does not
 skip-goes : {t : List ℕ} {whole : Course} {xs : List Step} (c : Core) (i n : ℕ) → FlowOk t c.flow → read_at t c.flow.at ≡ At (Skip i) n
@@ -85,8 +84,8 @@ pub command-goes : {t : List ℕ} {whole : Course} {xs : List Step} (image : Lis
 unfolding command_taken
 command-goes {t} image c LoopBegin n h e i l =
     let f = c.flow in
-    let room : length (opens f.depth f.starts) < most_open = rw e at (lawful h.checked h.place) in
-    rw (begin_goes h e) (record { ok = opened_ok h e; took = opened-taken f h (omega (arith, opens-length f.depth f.starts)) l; stays = refl })
+    let room : length (opens f.depth f.loops) < most_open = rw e at (lawful h.checked h.place) in
+    rw (begin_goes h e) (record { ok = opened_ok h e; took = opened-taken f h (omega (arith, opens-length f.depth f.loops)) l; stays = refl })
 command-goes {t} image c (LoopEnd m) n h e i l =
     rw (end_goes h e) (record { ok = closed_ok h e; took = closed-taken c.flow h m n l; stays = refl })
 command-goes image c (Skip k) n h e i l = skip-goes c k n h e l

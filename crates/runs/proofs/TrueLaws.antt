@@ -1,4 +1,5 @@
 -- What was told comes true: the text is steady, and its run takes what its course says. Assumes nothing.
+use Rattle.std.specs.Prelude.{Ok}
 use Prim.Native.Nat.{ℕ}
 use mathlib.Core.Path.{◌≡◌, sym, subst, ◌∙◌}
 use mathlib.Core.List.{List}
@@ -8,12 +9,11 @@ use Rattle.courses.specs.Meaning.{Step, Steady, course_in, commands_in}
 use Rattle.courses.proofs.SteadyLaws.{costs}
 use Rattle.runs.specs.Ran.{Begins, Ran}
 use Rattle.runs.specs.Schedule.{RunsCounted, ScheduleClaims}
-use Rattle.forecast.specs.declared.Counted.TheVariants.{Commands}
 use Rattle.forecast.specs.Count.{body_text, count_of}
 use Rattle.forecast.specs.Claims.{ForecastClaims}
 use Rattle.runs.specs.Foretold.{ComesTrue}
 
-pub comes_true : ForecastClaims → ScheduleClaims → {u v : Drive} {xs : List Step} (b : List ℕ) (k : ℕ) → count_of b ≡ Commands k → Reached u → Begins u
+pub comes_true : ForecastClaims → ScheduleClaims → {u v : Drive} {xs : List Step} (b : List ℕ) (k : ℕ) → count_of b ≡ Ok k → Reached u → Begins u
     → text_of u ≡ body_text b → Ran u xs v → ComesTrue (body_text b) k xs v
 unfolding commands_in
 comes_true f s {u} {v} {xs} b k e r g same ran =

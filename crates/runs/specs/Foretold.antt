@@ -1,5 +1,5 @@
 -- What is claimed of runs of a text that was counted. 02, E14. Assumes nothing.
-use Rattle.std.specs.Prelude.{ℕ, ◌≤◌, ◌≡◌, List, ◌++◌, length}
+use Rattle.std.specs.Prelude.{ℕ, ◌≤◌, ◌≡◌, List, ◌++◌, length, Ok}
 use Rattle.commands.specs.declared.Command.{Command}
 use Rattle.commands.specs.declared.Read.TheVariants.{End}
 use Rattle.turns.specs.Ends.{Reads}
@@ -7,7 +7,6 @@ use Rattle.drive.specs.Unit.{Drive}
 use Rattle.runs.specs.Reach.{Reached, text_of}
 use Rattle.courses.specs.Meaning.{Step, commands_of, unrolled, course_in}
 use Rattle.runs.specs.Ran.{Begins, Ran}
-use Rattle.forecast.specs.declared.Counted.TheVariants.{Commands}
 use Rattle.forecast.specs.Count.{body_text, count_of}
 use Rattle.forecast.specs.Claims.{ForecastClaims}
 
@@ -23,7 +22,7 @@ pub record ComesTrue (t : List ℕ) (k : ℕ) (xs : List Step) (v : Drive) : Typ
 
 pub record ForetoldClaims : Type 0 where
   -- from a fresh start, any calls in any order: a run of the text of a body that was told k
-  pub comes_true : {u v : Drive} {xs : List Step} (b : List ℕ) (k : ℕ) → count_of b ≡ Commands k → Reached u → Begins u → text_of u ≡ body_text b → Ran u xs v
+  pub comes_true : {u v : Drive} {xs : List Step} (b : List ℕ) (k : ℕ) → count_of b ≡ Ok k → Reached u → Begins u → text_of u ≡ body_text b → Ran u xs v
       → ComesTrue (body_text b) k xs v
   -- not met empty: which bodies are told which number
   pub told : ForecastClaims

@@ -28,7 +28,8 @@ use Rattle.obeying.specs.Obeying.{data_of, place_told, loaded_as, text_written}
 use Rattle.drive.specs.Unit.{Drive}
 use Rattle.drive.proofs.AnswerLaws.{packet-fits}
 use Rattle.drive.proofs.FeedLaws.{frame-does}
-use Rattle.drive.specs.declared.StartAnswer.{StartAnswer}
+use Rattle.drive.specs.StartAnswer
+use Rattle.drive.specs.StartAnswer.{StartAnswer}
 use Rattle.drive.proofs.StartLaws.{started-unit}
 use Rattle.drive.specs.Calls.{start_of, received_by, text_then, answer_to, turn_of}
 use Rattle.motor.specs.Deeds.{MotorLeads, same, waits, less, places}

@@ -1,5 +1,6 @@
 -- What 02 says of OEM frames: a skipped one completes nothing; of a repeat only a query or an empty body is obeyed, and neither changes the
 -- unit; and what is obeyed is read off the body alone. Assumes nothing.
+use Rattle.std.specs.Prelude.{Option, Some, None}
 use Prim.Native.Nat.{ℕ, ◌+◌}
 use mathlib.Core.Path.{◌≡◌, refl, sym, ap, subst, ◌∙◌}
 use mathlib.Core.List.{List, [], ◌∷◌, ◌++◌}
@@ -26,8 +27,8 @@ use Rattle.turns.specs.declared.Core.{Core}
 use Rattle.obeying.specs.declared.Tell.{Tell}
 use Rattle.obeying.specs.declared.Obeyed.{Obeyed}
 use Rattle.obeying.specs.Obeying.{telling, body_obeyed, data_of, text_written, image_written}
-use Rattle.drive.specs.declared.FeedAnswer.{FeedAnswer}
-use Rattle.drive.specs.declared.Last.{Last}
+use Rattle.drive.specs.FeedAnswer
+use Rattle.drive.specs.FeedAnswer.{FeedAnswer}
 use Rattle.drive.specs.Unit.{Drive}
 use Rattle.drive.specs.Repeats.{sequence_number, repeats, is_repeat, queries, is_query, chosen, is_refusal, numbered_by, last_after}
 use Rattle.drive.specs.Calls.{Starting, fresh_unit, no_unit, start_of, most_sample, Turning, turn_of, received_by, frame_obeyed, body_by, obeyed_by, text_then, answer_to, answer_for, Feeding, feed_taken, feed_of}
@@ -132,7 +133,7 @@ empty-tells : (c : Core) → Tellings c (body_obeyed [] c)
 unfolding body_obeyed body_of table.one_of same
 empty-tells c = record { told = Tell.Nothing; tells = refl }
 
-pub chosen_is : (last : Last) (g : Framing) (body : List ℕ) → is_repeat last g ≡ true → chosen last g body ≡ cond (is_query body) body []
+pub chosen_is : (last : Option ℕ) (g : Framing) (body : List ℕ) → is_repeat last g ≡ true → chosen last g body ≡ cond (is_query body) body []
 unfolding chosen
 chosen_is last g body e = rw e
 
@@ -145,14 +146,14 @@ frame-tells Frame.Alone b c t = t
 frame-tells Frame.Group b c t = t
 
 -- its number is the last already
-number_same : (g : Framing) (code : ℕ) (last : Last) → is_repeat last g ≡ true → numbered_by g code last ≡ last
+number_same : (g : Framing) (code : ℕ) (last : Option ℕ) → is_repeat last g ≡ true → numbered_by g code last ≡ last
 number_same Framing.Plain code last e = refl
-number_same (Framing.Oem q) code Last.Never e = absurd (true≢false (sym e))
-number_same (Framing.Oem q) code (Last.Number n) e =
+number_same (Framing.Oem q) code None e = absurd (true≢false (sym e))
+number_same (Framing.Oem q) code (Some n) e =
     let k = eqb-true (sequence_number q) n ((and-eq-true_iff (repeats q) (eqb (sequence_number q) n)).0 e).1 in
-    cases (λ (l : Last). l ≡ Last.Number n) (is_refusal code) (λ r. refl) (λ r. ap (λ (m : ℕ). Last.Number m) k)
+    cases (λ (l : Option ℕ). l ≡ Some n) (is_refusal code) (λ r. refl) (λ r. ap (λ (m : ℕ). Some m) k)
 
-last-same : (f : Frame) (g : Framing) (code : ℕ) (last : Last) → is_repeat last g ≡ true → last_after f g code last ≡ last
+last-same : (f : Frame) (g : Framing) (code : ℕ) (last : Option ℕ) → is_repeat last g ≡ true → last_after f g code last ≡ last
 last-same Frame.Nothing g code last e = refl
 last-same Frame.Alone g code last e = number_same g code last e
 last-same Frame.Group g code last e = number_same g code last e
@@ -184,7 +185,7 @@ repeats_tell u bytes image buffer h e =
 
 -- ---- either framing
 
-pub chosen-not : (last : Last) (g : Framing) (body : List ℕ) → is_repeat last g ≡ false → chosen last g body ≡ body
+pub chosen-not : (last : Option ℕ) (g : Framing) (body : List ℕ) → is_repeat last g ≡ false → chosen last g body ≡ body
 unfolding chosen
 chosen-not last g body e = rw e
 
@@ -268,20 +269,20 @@ same_deed u a q body image buffer h s l k g f e n =
 
 -- ---- the number
 
-number_kept_lem : (f : Frame) (g : Framing) (q code : ℕ) (last : Last) → ours f ≡ true → g ≡ Framing.Oem q
-    → last_after f g code last ≡ cond (is_refusal code) last (Last.Number (sequence_number q))
+number_kept_lem : (f : Frame) (g : Framing) (q code : ℕ) (last : Option ℕ) → ours f ≡ true → g ≡ Framing.Oem q
+    → last_after f g code last ≡ cond (is_refusal code) last (Some (sequence_number q))
 number_kept_lem Frame.Nothing g q code last o e = absurd (true≢false (sym o))
 number_kept_lem Frame.Alone g q code last o e = rw e
 number_kept_lem Frame.Group g q code last o e = rw e
 
 pub numbers : (u : Drive) (bytes image buffer : List ℕ) (q : ℕ) → Heeded image buffer → ours (received_by u bytes).frame ≡ true
     → (received_by u bytes).framing ≡ Framing.Oem q
-    → (feed_of u bytes image buffer).unit.last ≡ cond (is_refusal (obeyed_by u bytes).code) u.last (Last.Number (sequence_number q))
+    → (feed_of u bytes image buffer).unit.last ≡ cond (is_refusal (obeyed_by u bytes).code) u.last (Some (sequence_number q))
 numbers u bytes image buffer q h o e =
     ap (λ (x : Feeding). x.unit.last) (feed_is u bytes image buffer h)
     ∙ number_kept_lem (received_by u bytes).frame (received_by u bytes).framing q (obeyed_by u bytes).code u.last o e
 
-plain-same : (f : Frame) (g : Framing) (code : ℕ) (last : Last) → g ≡ Framing.Plain → last_after f g code last ≡ last
+plain-same : (f : Frame) (g : Framing) (code : ℕ) (last : Option ℕ) → g ≡ Framing.Plain → last_after f g code last ≡ last
 plain-same Frame.Nothing g code last e = refl
 plain-same Frame.Alone g code last e = rw e
 plain-same Frame.Group g code last e = rw e
@@ -298,13 +299,13 @@ plain-leaves u bytes image buffer e =
     Q x = x.unit.last ≡ u.last
 
 -- a start that is refused leaves no unit, and no number
-pub none_at_start : (number : ℕ) (image body text : List ℕ) → (start_of number image body text).unit.last ≡ Last.Never
+pub none_at_start : (number : ℕ) (image body text : List ℕ) → (start_of number image body text).unit.last ≡ None
 unfolding start_of fresh_unit no_unit
 none_at_start number image body text =
     cases Q (is_unit number) (λ n. cases Q (right_length image) (λ l. cases Q (slots_older image slots) (λ g. refl) (λ g. refl)) (λ l. refl)) (λ n. refl)
   where
     Q : Starting → Type 0
-    Q s = s.unit.last ≡ Last.Never
+    Q s = s.unit.last ≡ None
 
 pub turn-leaves : (u : Drive) (sample ms steps : ℕ) (image : List ℕ) → (turn_of u sample ms steps image).unit.last ≡ u.last
 unfolding turn_of

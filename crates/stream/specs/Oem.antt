@@ -1,6 +1,6 @@
 -- The OEM framing: what a skipped frame leaves, what a repeat changes, and that a frame of either framing does the same. 02, E1.
 -- Assumes nothing.
-use Rattle.std.specs.Prelude.{ℕ, ◌+◌, ◌≤◌, ◌≡◌, List, [], ◌∷◌, ◌++◌, true, false, cond, length}
+use Rattle.std.specs.Prelude.{ℕ, ◌+◌, ◌≤◌, ◌≡◌, List, [], ◌∷◌, ◌++◌, true, false, cond, length, Some, None}
 use Rattle.parts.specs.Parts.{put_in}
 use Rattle.parts.specs.Letters.{cr, etx}
 use Rattle.answers.specs.Packet.{packet, packet_bytes}
@@ -14,8 +14,8 @@ use Rattle.frames.specs.Receive.{Receiver, body_in, ours, good, elsewhere}
 use Rattle.frames.specs.Claims.{Sound, Alike, free, frame_of, oem_of, sum_of}
 use Rattle.obeying.specs.declared.Tell.{Tell}
 use Rattle.obeying.specs.Obeying.{telling}
-use Rattle.drive.specs.declared.FeedAnswer.{FeedAnswer}
-use Rattle.drive.specs.declared.Last.{Last}
+use Rattle.drive.specs.FeedAnswer
+use Rattle.drive.specs.FeedAnswer.{FeedAnswer}
 use Rattle.drive.specs.Unit.{Drive, drive}
 use Rattle.drive.specs.Repeats.{sequence_number, is_repeat, is_query, is_refusal}
 use Rattle.drive.specs.Calls.{start_of, received_by, frame_obeyed, obeyed_by, feed_of, turn_of}
@@ -97,9 +97,9 @@ pub record OemClaims : Type 0 where
   -- "the last OEM frame for this unit or its groups not refused": its number is kept, of no other frame
   pub numbers : (u : Drive) (bytes image buffer : List ℕ) (q : ℕ) → Heeded image buffer → ours (received_by u bytes).frame ≡ true
       → (received_by u bytes).framing ≡ Framing.Oem q
-      → (feed_of u bytes image buffer).unit.last ≡ cond (is_refusal (obeyed_by u bytes).code) u.last (Last.Number (sequence_number q))
+      → (feed_of u bytes image buffer).unit.last ≡ cond (is_refusal (obeyed_by u bytes).code) u.last (Some (sequence_number q))
   -- "(at start there is none)"; plain frames and turns leave it
-  pub none_at_start : (number : ℕ) (image body text : List ℕ) → (start_of number image body text).unit.last ≡ Last.Never
+  pub none_at_start : (number : ℕ) (image body text : List ℕ) → (start_of number image body text).unit.last ≡ None
   pub plain-leaves : (u : Drive) (bytes image buffer : List ℕ) → (received_by u bytes).framing ≡ Framing.Plain
       → (feed_of u bytes image buffer).unit.last ≡ u.last
   pub turn-leaves : (u : Drive) (sample ms steps : ℕ) (image : List ℕ) → (turn_of u sample ms steps image).unit.last ≡ u.last

@@ -1,3 +1,2 @@
-pub mod ElseLaws
 pub mod MoveLaws
 pub mod TurnLaws

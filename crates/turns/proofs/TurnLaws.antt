@@ -6,6 +6,7 @@ use mathlib.Core.List.{List}
 use mathlib.Core.Bool.{true, false}
 use mathlib.Core.Logic.{◌⊎◌, inl, inr}
 use lib.ListN.{take}
+use Rattle.std.specs.Prelude.{Option, Some, None, Err}
 use Rattle.parts.proofs.Laws.{cases}
 use Rattle.commands.specs.declared.Command.{Command}
 use Rattle.commands.specs.declared.Command.TheVariants.{LoopBegin, LoopEnd, Skip, Jump, Plain}
@@ -15,14 +16,14 @@ use Rattle.commands.specs.declared.Read.{Read}
 use Rattle.commands.specs.declared.Read.TheVariants.{At, Bad, End}
 use Rattle.commands.specs.Reading.{read_at}
 use Rattle.image.specs.Image.{slot_good}
-use Rattle.flow.specs.declared.Flowed.{Flowed}
+use Rattle.flow.specs.declared.Flow.{Flow}
 use Rattle.flow.specs.Flow.{gone, loop_begun, loop_ended}
 use Rattle.motor.specs.declared.Wait.{Wait}
 use Rattle.motor.specs.declared.Motor.{Motor}
-use Rattle.motor.specs.declared.Moved.{Moved}
-use Rattle.motor.specs.declared.Moved.TheVariants.{Stops}
+use Rattle.motor.specs.declared.stops.Stop.{Stop}
+use Rattle.motor.specs.declared.stops.Stop.TheVariants.{PositionUnknown, RangeLeft}
 use Rattle.motor.specs.Inputs.{level_there}
-use Rattle.motor.specs.Motion.{reported, is_free, action_of, relative, absolute, if_known, served}
+use Rattle.motor.specs.Motion.{code_of, Moved, reported, is_free, action_of, relative, absolute, if_known, served}
 use Rattle.motor.proofs.StopLaws as stops
 use Rattle.motor.proofs.StopLaws.{ServeStops, relative-stops, relative-leaves, known-stops, serve_stops, stops_serve}
 use Rattle.turns.specs.declared.Core.{Core}
@@ -76,12 +77,12 @@ module _ (sample ms steps : ℕ) (t image : List ℕ) (c : Core) where
 
   -- `A`, `P` or `D`: the position is unknown, or the range would be left
   move-ends : (a : Act) (next : ℕ) (s : Moved) → Reads t c (At (Plain a) next) → Moving a
-      → ((k : ℕ) → s ≡ Stops k → (k ≡ 11) × Leaving then.position a)
-      → (k : ℕ) → if_known then s ≡ Stops k → Ends k
+      → ((k : Stop) → s ≡ Err k → (k ≡ RangeLeft) × Leaving then.position a)
+      → (k : Stop) → if_known then s ≡ Err k → Ends (code_of k)
   unfolding reported
   move-ends a next s r m f k e = go (known-stops then s e)
     where
-      go : ((c.motor.known ≡ false) × (k ≡ 7)) ⊎ ((c.motor.known ≡ true) × (s ≡ Stops k)) → Ends k
+      go : ((c.motor.known ≡ false) × (k ≡ PositionUnknown)) ⊎ ((c.motor.known ≡ true) × (s ≡ Err k)) → Ends (code_of k)
       go (inl u) = rw u.1 (cause (unknown a next r m u.0))
       go (inr u) = let l = f k u.1 in rw l.0 (cause (leaves_range a next r u.0 l.1))
 
@@ -102,9 +103,10 @@ module _ (sample ms steps : ℕ) (t image : List ℕ) (c : Core) where
   act_ends (Delay n) next r h = clash h
   act_ends (WaitInput n) next r h = clash h
 
-  flow-ends : (f : Flowed) → c.running ≡ true → (f.astray ≡ true → Strays sample t c) → Caused (flowed f after)
+  flow-ends : (f : Option Flow) → c.running ≡ true → (f ≡ None → Strays sample t c) → Caused (flowed f after)
   unfolding astray ended
-  flow-ends f h s = cases Caused f.astray (λ q z. straying (s q) refl) (λ q z. clash h z)
+  flow-ends (Some f) h s = λ z. clash h z
+  flow-ends None h s = λ z. straying (s refl) refl
 
   skip-ends : (digits next : ℕ) → Reads t c (At (Skip digits) next) → c.running ≡ true
       → Caused (skip_taken digits t next after)
@@ -135,8 +137,8 @@ module _ (sample ms steps : ℕ) (t image : List ℕ) (c : Core) where
   read_ends (Bad k p) r h = λ z. straying (bad_read k p r) refl
   read_ends End r h = λ z. cause (text-ends r)
 
-  served-ends : (k : ℕ) (w : Wait) → c.motor.wait ≡ w
-      → ServeStops c.motor.sample c.settings.flag steps then w k → Ends k
+  served-ends : (k : Stop) (w : Wait) → c.motor.wait ≡ w
+      → ServeStops c.motor.sample c.settings.flag steps then w k → Ends (code_of k)
   unfolding reported
   served-ends k w e (stops.range_ends up left f z) = cause (range_ends up left e f z)
   served-ends k w e (stops.not-clear left n f l) = cause (not-clear left n e f l)

@@ -1,6 +1,6 @@
 -- The causes for which a turn ends a run, each with its code. 01, "A turn": "A run ends for six causes only".
 -- Assumes nothing.
-use Rattle.std.specs.Prelude.{ℕ, ◌≤◌, ◌<◌, ◌≡◌, List, Bool, true, false}
+use Rattle.std.specs.Prelude.{ℕ, ◌≤◌, ◌<◌, ◌≡◌, List, Bool, true, false, None}
 use Rattle.commands.specs.declared.Command.TheVariants.{LoopBegin, LoopEnd, Skip, Jump, Plain}
 use Rattle.commands.specs.declared.Act.{Act}
 use Rattle.commands.specs.declared.Act.TheVariants.{MoveTo, MoveUp, MoveDown}
@@ -40,8 +40,8 @@ position_then sample steps c = (reported sample steps c.motor).position
 -- what no checked text comes to: a bad read, a fifth loop, an end of no loop, a skip past the text
 pub data Strays (sample : ℕ) (t : List ℕ) (c : Core) : Type 0 where
   bad_read : (k p : ℕ) → Reads t c (Bad k p) → Strays sample t c
-  too_deep : (next : ℕ) → Reads t c (At LoopBegin next) → (loop_begun next c.flow).astray ≡ true → Strays sample t c
-  none_open : (n next : ℕ) → Reads t c (At (LoopEnd n) next) → (loop_ended n next c.flow).astray ≡ true → Strays sample t c
+  too_deep : (next : ℕ) → Reads t c (At LoopBegin next) → loop_begun next c.flow ≡ None → Strays sample t c
+  none_open : (n next : ℕ) → Reads t c (At (LoopEnd n) next) → loop_ended n next c.flow ≡ None → Strays sample t c
   skips-bad : (digits next k p : ℕ) → Reads t c (At (Skip digits) next) → level_there digits sample ≡ true
       → read_at t next ≡ Bad k p → Strays sample t c
   skips-end : (digits next : ℕ) → Reads t c (At (Skip digits) next) → level_there digits sample ≡ true

@@ -1,10 +1,8 @@
 -- The settings of a unit: a line each for its place in the record and for its default; and how a command sets one. 01, "Lines" (table) and "Defaults".
 -- Assumes nothing.
-use Rattle.std.specs.Prelude.{ℕ, Bool, cond, eqb}
+use Rattle.std.specs.Prelude.{ℕ, Bool, cond, eqb, unwrap_or}
 use Rattle.commands.specs.declared.Setting.{Setting}
 use Rattle.commands.specs.declared.Setting.TheVariants.{TopSpeed, Acceleration, FlagLevel, Turned, MoveCurrent, HoldCurrent, StepSize, Correction, Outputs, Baud}
-use Rattle.commands.specs.declared.Exponent.{Exponent}
-use Rattle.commands.specs.declared.Exponent.TheVariants.{Power, NoPower}
 use Rattle.commands.specs.Table.{setting_letter, exponent_of}
 use Rattle.turns.specs.declared.setting.Settings.{Settings}
 
@@ -56,14 +54,9 @@ defaults = settings_by default_of
 abbrev pub same_setting : Setting → Setting → Bool
 same_setting a b = eqb (setting_letter a) (setting_letter b)
 
--- a checked text has powers only
-abbrev pub exponent_or : ℕ → Exponent → ℕ
-exponent_or k (Power e) = e
-exponent_or k NoPower = k
-
--- "The record keeps the exponent of `j`"; of the others the number itself
+-- "The record keeps the exponent of `j`", and a checked text has powers only; of the others the number itself
 abbrev pub number_kept : Setting → ℕ → Settings → ℕ
-number_kept which n s = cond (same_setting which StepSize) (exponent_or s.exponent (exponent_of n)) n
+number_kept which n s = cond (same_setting which StepSize) (unwrap_or (exponent_of n) s.exponent) n
 
 -- one setting set, all others as they were
 abbrev pub with_setting : Setting → ℕ → Settings → Settings

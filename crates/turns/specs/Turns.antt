@@ -1,6 +1,6 @@
 -- A turn: one wait served, or one command taken. 01, "A turn".
 -- Assumes nothing.
-use Rattle.std.specs.Prelude.{ℕ, List, Bool, true, false, cond, length, take, eqb}
+use Rattle.std.specs.Prelude.{ℕ, List, Bool, true, false, cond, length, take, eqb, Option, Some, None, Ok, Err}
 use Prim.Native.String.{String}
 use Rattle.parts.specs.Parts.{padded_text}
 use Rattle.commands.specs.declared.Command.{Command}
@@ -12,19 +12,14 @@ use Rattle.commands.specs.declared.Read.TheVariants.{At, Bad, End}
 use Rattle.commands.specs.Reading.{read_at}
 use Rattle.image.specs.Image.{slot_good, slot_text}
 use Rattle.flow.specs.declared.Flow.{Flow}
-use Rattle.flow.specs.declared.Flowed.{Flowed}
 use Rattle.flow.specs.Flow.{begun, gone, loop_begun, loop_ended}
 use Rattle.motor.specs.declared.Wait.{Wait}
 use Rattle.motor.specs.declared.Last.{Last}
 use Rattle.motor.specs.declared.Motor.{Motor}
-use Rattle.motor.specs.declared.Moved.{Moved}
-use Rattle.motor.specs.declared.Moved.TheVariants.{Goes, Stops}
 use Rattle.motor.specs.Inputs.{level_there}
-use Rattle.motor.specs.Motion.{waiting, placed_at, reported, is_free, answered, relative, absolute, if_known, homed, delayed, held, served, stopped, fresh_motor}
+use Rattle.motor.specs.Motion.{code_of, Moved, waiting, placed_at, reported, is_free, answered, relative, absolute, if_known, homed, delayed, held, served, stopped, fresh_motor}
 use Rattle.turns.specs.declared.setting.Settings.{Settings}
 use Rattle.turns.specs.declared.Core.{Core}
-use Rattle.turns.specs.declared.Enter.{Enter}
-use Rattle.turns.specs.declared.Enter.TheVariants.{Stay, Into}
 use Rattle.turns.specs.declared.Stepped.{Stepped}
 use Rattle.turns.specs.declared.Direction.{Direction}
 use Rattle.turns.specs.declared.Direction.TheVariants.{Up, Down, Still}
@@ -68,13 +63,13 @@ astray c = ended c.code c
 -- ---- one command taken
 
 abbrev pub moved : Moved → Core → Core
-moved (Goes m) c = with_motor m c
-moved (Stops code) c = ended code c
+moved (Ok m) c = with_motor m c
+moved (Err why) c = ended (code_of why) c
 
 -- 02, E3: "a new `P0` or `D0` starts it from `V`", where it is taken and does not stop the run
 abbrev pub speed_after : ℕ → Moved → Core → ℕ
-speed_after n (Goes m) c = cond (eqb n 0) c.settings.speed c.endless
-speed_after n (Stops code) c = c.endless
+speed_after n (Ok m) c = cond (eqb n 0) c.settings.speed c.endless
+speed_after n (Err why) c = c.endless
 
 -- `P n` and `D n`
 abbrev pub relative_moved : ℕ → Moved → Core → Core
@@ -92,8 +87,9 @@ acted (Delay n) c = with_motor (delayed n c.motor) c
 acted (WaitInput n) c = with_motor (held n c.motor) c
 
 -- a loop's begin or end
-abbrev pub flowed : Flowed → Core → Core
-flowed f c = cond f.astray (astray c) (with_flow f.flow c)
+abbrev pub flowed : Option Flow → Core → Core
+flowed (Some f) c = with_flow f c
+flowed None c = astray c
 
 -- the command that is skipped
 abbrev pub skipped : Read → Core → Core
@@ -101,12 +97,12 @@ skipped (At d next) c = with_flow (gone next c.flow) c
 skipped (Bad code place) c = astray c
 skipped End c = astray c
 
--- the core, and whether a slot's text becomes the current one
+-- the core, and the slot whose text becomes the current one, if any
 abbrev pub stays : Core → Stepped
-stays c = record { core = c; enter = Stay }
+stays c = record { core = c; enter = None }
 
 abbrev pub enters : ℕ → Core → Stepped
-enters slot c = record { core = c; enter = Into slot }
+enters slot c = record { core = c; enter = Some slot }
 
 -- "`e` to a slot whose entry or body .. breaks the image's rules (1)"
 abbrev pub slot_broken : ℕ
@@ -163,9 +159,9 @@ unfoldable pub turn_core : ℕ → ℕ → ℕ → List ℕ → List ℕ → Cor
 turn_core sample ms steps text image c = settled (step_of sample ms steps (take c.flow.length text) image c)
 
 -- "makes the slot's text the current text"
-abbrev pub text_after : Enter → List ℕ → List ℕ → List ℕ
-text_after Stay text image = text
-text_after (Into slot) text image = padded_text (slot_text image slot)
+abbrev pub text_after : Option ℕ → List ℕ → List ℕ → List ℕ
+text_after None text image = text
+text_after (Some slot) text image = padded_text (slot_text image slot)
 
 -- "direction and greatest number of microsteps. A number of 0 has no direction."; "`F1` turns the direction of every action"
 abbrev pub direction_of : Bool → ℕ → Direction

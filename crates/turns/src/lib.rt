@@ -27,20 +27,14 @@ pub struct Core {
     pub flow: Flow,
 }
 
-// Whether a slot's text becomes the current one.
-#[derive(Clone, Copy)]
-pub enum Enter {
-    Stay,
-    Into(u32),
-}
-
+// The core after a turn, and the slot whose text becomes the current one, if any.
 #[derive(Clone, Copy)]
 pub struct Stepped {
     pub core: Core,
-    pub enter: Enter,
+    pub enter: Option<u32>,
 }
 
-#[derive(Clone, Copy)]
+#[derive(Clone, Copy, PartialEq, Eq)]
 pub enum Direction {
     Up,
     Down,
@@ -70,96 +64,89 @@ pub fn fresh_core() -> Core
 }
 
 // A run starts on a text of so many bytes.
-pub fn start_run(c: Core, length: usize) -> Core
+pub fn start_run(mut c: Core, length: usize) -> Core
     ensures { result ≡ started length c }
 {
-    let mut d = c;
-    d.flow = flow::begin(length);
-    d.running = true;
-    d.loaded = false;
-    d.code = 0;
-    d
+    c.flow = flow::begin(length);
+    c.running = true;
+    c.loaded = false;
+    c.code = 0;
+    c
 }
 
 // A run ends with a held code.
-pub fn end_run(c: Core, code: u8) -> Core
+pub fn end_run(mut c: Core, code: u8) -> Core
     ensures { result ≡ ended code c }
 {
-    let m = c.motor;
-    let mut d = c;
-    d.motor = motor::stop(m);
-    d.running = false;
-    d.code = code;
-    d
+    c.motor = motor::stop(c.motor);
+    c.running = false;
+    c.code = code;
+    c
 }
 
-pub(crate) fn set_flow(c: Core, f: Flow) -> Core
+pub(crate) fn set_flow(mut c: Core, f: Flow) -> Core
     ensures { result ≡ with_flow f c }
 {
-    let mut d = c;
-    d.flow = f;
-    d
+    c.flow = f;
+    c
 }
 
-pub(crate) fn set_settings(c: Core, s: Settings) -> Core
+pub(crate) fn set_settings(mut c: Core, s: Settings) -> Core
     ensures { result ≡ with_settings s c }
 {
-    let mut d = c;
-    d.settings = s;
-    d
+    c.settings = s;
+    c
 }
 
-pub(crate) fn set_motor(c: Core, m: Motor) -> Core
+pub(crate) fn set_motor(mut c: Core, m: Motor) -> Core
     ensures { result ≡ with_motor m c }
 {
-    let mut d = c;
-    d.motor = m;
-    d
+    c.motor = m;
+    c
 }
 
 // One wait served, or one command taken.
 fn run_on(c: Core, before: u8, ms: u32, steps: u32, text: &[u8], image: &[u8]) -> Stepped
     ensures { result ≡ running before ms steps text.now image.now c }
 {
-    let m = c.motor;
-    let w = m.wait;
-    if motor::is_free(w) {
+    if motor::is_free(c.motor.wait) {
         return taking::take_next(c, text, image);
     }
-    taking::stay(acting::move_on(c, motor::serve(m, before, setting::flag_of(c), ms, steps)))
+    taking::stay(acting::move_on(c, motor::serve(c.motor, before, c.settings.flag, ms, steps)))
 }
 
 // The report counted, then the wait or the command.
 fn step(c: Core, sample: u8, ms: u32, steps: u32, text: &[u8], image: &[u8]) -> Stepped
     ensures { result ≡ step_of sample ms steps text.now image.now c }
 {
-    let m = c.motor;
-    let d = set_motor(c, motor::report(m, sample, steps));
+    let d = set_motor(c, motor::report(c.motor, sample, steps));
     if c.running {
-        return run_on(d, m.sample, ms, steps, text, image);
+        return run_on(d, c.motor.sample, ms, steps, text, image);
     }
-    let n = d.motor;
-    taking::stay(set_motor(d, motor::resume(n)))
+    taking::stay(set_motor(d, motor::resume(d.motor)))
 }
 
 // A whole turn of the core, over the current text and the image.
 pub fn turn_core(c: Core, sample: u8, ms: u32, steps: u32, text: &[u8], image: &[u8]) -> Stepped
     ensures { result ≡ turn_core sample ms steps text.now image.now c }
 {
-    let f = c.flow;
-    settle(step(c, sample, ms, steps, parts::first(text, f.length), image))
+    settle(step(
+        c,
+        sample,
+        ms,
+        steps,
+        parts::first(text, c.flow.length),
+        image,
+    ))
 }
 
 // The next motor action answered, and kept as the last one.
 fn settle(s: Stepped) -> Stepped
     ensures { result ≡ settled s }
 {
-    let c = s.core;
-    let m = c.motor;
-    let e = s.enter;
     Stepped {
-        core: set_motor(c, motor::answer(m)),
-        enter: e,
+        core: set_motor(s.core, motor::answer(s.core.motor)),
+        enter: s.enter,
     }
 }
 
@@ -183,17 +170,9 @@ pub fn answer_action(f: u32, l: Last) -> Action
 fn way(up: bool, f: u32) -> Direction
     ensures { result ≡ direction_of up f }
 {
-    if up {
-        if f == 0 {
-            Direction::Up
-        } else {
-            Direction::Down
-        }
+    if up == (f == 0) {
+        Direction::Up
     } else {
-        if f == 0 {
-            Direction::Down
-        } else {
-            Direction::Up
-        }
+        Direction::Down
     }
 }

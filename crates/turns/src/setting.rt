@@ -1,10 +1,8 @@
 // The settings of a unit: what each is at a fresh start, and how each is set.
 ghost use Rattle.std.specs.Prelude.{◌≡◌};
-ghost use Rattle.commands.specs.Table.{exponent_of};
-ghost use Rattle.turns.specs.Settings.{defaults, exponent_or, with_setting};
+ghost use Rattle.turns.specs.Settings.{defaults, with_setting};
 
-use crate::Core;
-use commands::{Exponent, Setting};
+use commands::Setting;
 
 // V L f F m h j o J b; of j the exponent.
 #[derive(Clone, Copy)]
@@ -40,39 +38,20 @@ pub(crate) fn default_settings() -> Settings
 }
 
 // The settings with one of them set.
-pub(crate) fn set(s: Settings, which: Setting, n: u32) -> Settings
+pub(crate) fn set(mut s: Settings, which: Setting, n: u32) -> Settings
     ensures { result ≡ with_setting which n s }
 {
-    let mut t = s;
     match which {
-        Setting::TopSpeed => t.speed = n,
-        Setting::Acceleration => t.acceleration = n,
-        Setting::FlagLevel => t.flag = n,
-        Setting::Turned => t.turned = n,
-        Setting::MoveCurrent => t.moving = n,
-        Setting::HoldCurrent => t.holding = n,
-        Setting::StepSize => t.exponent = exponent_kept(s.exponent, n),
-        Setting::Correction => t.correction = n,
-        Setting::Outputs => t.outputs = n,
-        Setting::Baud => t.baud = n,
+        Setting::TopSpeed => s.speed = n,
+        Setting::Acceleration => s.acceleration = n,
+        Setting::FlagLevel => s.flag = n,
+        Setting::Turned => s.turned = n,
+        Setting::MoveCurrent => s.moving = n,
+        Setting::HoldCurrent => s.holding = n,
+        Setting::StepSize => s.exponent = commands::exponent_of(n).unwrap_or(s.exponent),
+        Setting::Correction => s.correction = n,
+        Setting::Outputs => s.outputs = n,
+        Setting::Baud => s.baud = n,
     }
-    t
-}
-
-// The exponent of a step size, or the one before where it has none.
-fn exponent_kept(before: u32, n: u32) -> u32
-    ensures { result ≡ exponent_or before (exponent_of n) }
-{
-    let Exponent::Power(e) = commands::exponent_of(n) else {
-        return before;
-    };
-    e
-}
-
-// The setting f.
-pub(crate) fn flag_of(c: Core) -> u32
-    ensures { result ≡ c.settings.flag }
-{
-    let s = c.settings;
-    s.flag
+    s
 }

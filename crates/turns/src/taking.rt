@@ -4,17 +4,15 @@ ghost use Rattle.commands.specs.Reading.{read_at};
 ghost use Rattle.flow.specs.Flow.{begun, gone};
 ghost use Rattle.turns.specs.Turns.{stays, skip_taken, with_flow, astray, flowed, skipped, enters, jumped, command_taken, read_taken};
 
-use crate::{Core, Enter, Stepped, acting};
+use crate::{Core, Stepped, acting};
 use commands::{Command, Read};
-use flow::Flowed;
+use flow::Flow;
 
 // The command that stands at the place of the flow, or the end of the run.
 pub(crate) fn take_next(c: Core, text: &[u8], image: &[u8]) -> Stepped
     ensures { result ≡ read_taken (read_at text.now c.flow.at) text.now image.now c }
 {
-    let f = c.flow;
-    let r = commands::read_command(text, f.at);
-    match r {
+    match commands::read_command(text, c.flow.at) {
         Read::At(d, next) => take_command(c, d, next, text, image),
         Read::Bad(_, _) => stay(go_astray(c)),
         Read::End => stay(crate::end_run(c, c.code)),
@@ -25,10 +23,9 @@ pub(crate) fn take_next(c: Core, text: &[u8], image: &[u8]) -> Stepped
 fn take_command(c: Core, d: Command, next: usize, text: &[u8], image: &[u8]) -> Stepped
     ensures { result ≡ command_taken d next text.now image.now c }
 {
-    let f = c.flow;
     match d {
-        Command::LoopBegin => stay(flow_on(c, flow::begin_loop(f, next))),
-        Command::LoopEnd(n) => stay(flow_on(c, flow::end_loop(f, n, next))),
+        Command::LoopBegin => stay(flow_on(c, flow::begin_loop(c.flow, next))),
+        Command::LoopEnd(n) => stay(flow_on(c, flow::end_loop(c.flow, n, next))),
         Command::Skip(digits) => stay(skip(c, digits, text, next)),
         Command::Jump(slot) => jump(c, slot, image),
         Command::Plain(a) => stay(acting::act(go_to(c, next), a)),
@@ -36,22 +33,20 @@ fn take_command(c: Core, d: Command, next: usize, text: &[u8], image: &[u8]) -> 
 }
 
 // A loop's begin or end.
-fn flow_on(c: Core, f: Flowed) -> Core
+fn flow_on(c: Core, f: Option<Flow>) -> Core
     ensures { result ≡ flowed f c }
 {
-    if f.astray {
-        return go_astray(c);
+    match f {
+        Some(flow) => crate::set_flow(c, flow),
+        None => go_astray(c),
     }
-    let g = f.flow;
-    crate::set_flow(c, g)
 }
 
 // Gone on to a place.
 fn go_to(c: Core, next: usize) -> Core
     ensures { result ≡ with_flow (gone next c.flow) c }
 {
-    let f = c.flow;
-    crate::set_flow(c, flow::go_on(f, next))
+    crate::set_flow(c, flow::go_on(c.flow, next))
 }
 
 // What no checked text comes to.
@@ -65,8 +60,7 @@ fn go_astray(c: Core) -> Core
 fn skip(c: Core, digits: u32, text: &[u8], next: usize) -> Core
     ensures { result ≡ skip_taken digits text.now next c }
 {
-    let m = c.motor;
-    if motor::level_there(digits, m.sample) {
+    if motor::level_there(digits, c.motor.sample) {
         return pass(c, text, next);
     }
     go_to(c, next)
@@ -86,8 +80,7 @@ fn pass(c: Core, text: &[u8], at: usize) -> Core
 fn jump(c: Core, slot: u32, image: &[u8]) -> Stepped
     ensures { result ≡ jumped slot image.now c }
 {
-    let t = image::slot_text(image, slot);
-    let n = t.len();
+    let n = image::slot_text(image, slot).len();
     // Only a good slot has a text: it need not be judged twice.
     if 0 < n {
         return go_into(c, slot, n);
@@ -102,10 +95,9 @@ fn jump(c: Core, slot: u32, image: &[u8]) -> Stepped
 fn go_into(c: Core, slot: u32, n: usize) -> Stepped
     ensures { result ≡ enters slot (with_flow (begun n) c) }
 {
-    let f = flow::begin(n);
     Stepped {
-        core: crate::set_flow(c, f),
-        enter: Enter::Into(slot),
+        core: crate::set_flow(c, flow::begin(n)),
+        enter: Some(slot),
     }
 }
 
@@ -115,6 +107,6 @@ pub(crate) fn stay(c: Core) -> Stepped
 {
     Stepped {
         core: c,
-        enter: Enter::Stay,
+        enter: None,
     }
 }

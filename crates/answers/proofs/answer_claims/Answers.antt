@@ -8,7 +8,7 @@ use Rattle.answers.specs.Packet.{packet, status_of, around_data}
 use Rattle.answers.specs.Reading.{framed}
 use Rattle.answers.specs.Oem.{oem_sum, oem_tail, oem_packet, around_oem, oem_framed}
 use Rattle.answers.proofs.Writing.{packet_once}
-use Rattle.answers.proofs.ReadBack.{which, reads_back, nothing_else, refused-zeros, status_bits, status-only, status-apart, packet-apart, number-there, number-good, fits}
+use Rattle.answers.proofs.ReadBack.{which, reads_back, nothing_else, refused-bare, status_bits, status-only, status-apart, packet-apart, number-there, number-good, fits}
 use Rattle.answers.proofs.Framing.{plain, oem}
 use Rattle.answers.proofs.OemLaws.{framings_apart}
 use Rattle.answers.proofs.answer_claims.Goals as goal
@@ -19,7 +19,7 @@ returns c = record {
   which = λ s. which (framed s) around_data s;
   reads_back = reads_back plain;
   nothing_else = nothing_else plain;
-  refused-zeros = λ s. refused-zeros (framed s) around_data s;
+  refused-bare = λ s. refused-bare (framed s) around_data s;
   status_bits = status_bits;
   status-only = status-only;
   status-apart = status-apart;
@@ -34,7 +34,7 @@ returns c = record {
   which-oem = λ s. which (oem_framed s) around_oem s;
   reads_back_oem = reads_back oem;
   nothing_else_oem = nothing_else oem;
-  refused-zeros-oem = λ s. refused-zeros (oem_framed s) around_oem s;
+  refused-bare-oem = λ s. refused-bare (oem_framed s) around_oem s;
   oem-packet-apart = packet-apart oem;
   framings_apart = framings_apart;
   fits-oem = fits oem (lit≤ tt);

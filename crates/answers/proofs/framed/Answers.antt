@@ -1,36 +1,26 @@
--- `answers::framed` meets its contract: a byte that is not the packet's shows that the slice is no packet of its status and data; where the
--- others are right the last byte tells (`by_last`). Assumes nothing.
-use native.Mathlib.Omega.{arith}
-use native.Mathlib.Nat.{add-zero}
-use Rattle.answers.specs.Reading.{framed}
-use Rattle.answers.proofs.Framing.{fails, plain, framed-long, framed-first, framed-second, framed-last, by_last}
+-- `answers::framed` meets its contract: a slice with all bytes of the frame is the packet of its status and data (`is_framed`), and one that lacks one is none (`not_framed`).
+-- Assumes nothing.
+use Rattle.std.proofs.Common.{arith}
+use Rattle.answers.proofs.Framing.{is_framed, not_framed}
 use Rattle.answers.proofs.framed.Goals as goal
 
-pub returns-then-packet-lt-AROUND_DATA : goal.returns-then-packet-lt-AROUND_DATA
-returns-then-packet-lt-AROUND_DATA c =
-    let s = c.args.packet.now in
-    fails (framed s) (λ f. omega (arith, framed-long plain s f))
+pub returns-in-47 : goal.returns-in-47
+returns-in-47 c = is_framed _ (omega arith) (omega arith) (omega arith) (omega arith) (omega arith) (omega arith)
 
-pub returns-then-packet-ne-SLASH : goal.returns-then-packet-ne-SLASH
-returns-then-packet-ne-SLASH c =
-    let s = c.args.packet.now in
-    fails (framed s) (λ f. c.if-packet-ne-SLASH.true (framed-first plain s f))
+pub returns-in_default : goal.returns-in_default
+returns-in_default c = not_framed _ (λ a b d e f g. omega arith)
 
-pub returns-then-packet-ne-HOST_ADDRESS : goal.returns-then-packet-ne-HOST_ADDRESS
-returns-then-packet-ne-HOST_ADDRESS c =
-    let s = c.args.packet.now in
-    fails (framed s) (λ f. c.if-packet-ne-HOST_ADDRESS.true (framed-second plain s f))
+pub returns-in_default-2 : goal.returns-in_default-2
+returns-in_default-2 c = not_framed _ (λ a b d e f g. omega arith)
 
-pub returns-then-packet-end-ne-END_OF_TEXT : goal.returns-then-packet-end-ne-END_OF_TEXT
-returns-then-packet-end-ne-END_OF_TEXT c =
-    let s = c.args.packet.now in
-    fails (framed s) (λ f. c.if-packet-end-ne-END_OF_TEXT.true (rw add-zero at (framed-last plain s f 0)))
+pub returns-in_default-3 : goal.returns-in_default-3
+returns-in_default-3 c = not_framed _ (λ a b d e f g. omega arith)
 
-pub returns-then-packet-end-ne-CARRIAGE_RETURN : goal.returns-then-packet-end-ne-CARRIAGE_RETURN
-returns-then-packet-end-ne-CARRIAGE_RETURN c =
-    let s = c.args.packet.now in
-    fails (framed s) (λ f. c.if-packet-end-ne-CARRIAGE_RETURN.true (framed-last plain s f 1))
+pub returns-in_default-4 : goal.returns-in_default-4
+returns-in_default-4 c = not_framed _ (λ a b d e f g. omega arith)
 
-pub returns : goal.returns
-returns c =
-    by_last _ c.if-packet-lt-AROUND_DATA.false c.if-packet-ne-SLASH.false c.if-packet-ne-HOST_ADDRESS.false c.if-packet-end-ne-END_OF_TEXT.false c.if-packet-end-ne-CARRIAGE_RETURN.false
+pub returns-in_default-5 : goal.returns-in_default-5
+returns-in_default-5 c = not_framed _ (λ a b d e f g. omega arith)
+
+pub returns-in_default-6 : goal.returns-in_default-6
+returns-in_default-6 c = not_framed _ (λ a b d e f g. omega arith)

@@ -9,4 +9,4 @@ returns-in_default c = rw c.in_default.is
 
 pub returns : goal.returns
 unfolding told_of
-returns c = rw c.in-StatusData.is
+returns c = rw c.in-Some.is

@@ -19,10 +19,10 @@ returns c =
       cleared = λ image r s x y. cleared_once;
       packet = λ buffer status bytes r s x y. packet_once;
       oem-packet = λ buffer status bytes r s x y. packet_once;
-      line = λ l count buffer r s x y. line_once;
+      line = λ l buffer r s x y. line_once;
       translated = λ w text buffer r s x y. translated_once;
       heard = λ p body unit bytes r s x y. heard_once;
       started = λ number image body text d e. started_once d e;
-      fed = λ u body text bytes image buffer d e. fed_once d e;
+      fed = λ u body text bytes image buffer d e. fed_once u d e;
       turned = λ u text sample ms steps image r s x y. turned_once u text sample ms steps image;
     }

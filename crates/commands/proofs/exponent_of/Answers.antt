@@ -1,12 +1,13 @@
 -- `commands::exponent_of` meets its contract, by the laws of one bit. Assumes nothing.
 use Rattle.commands.proofs.TableLaws.{bit-one, bit-other, bit-above}
 use Rattle.commands.proofs.exponent_of.Goals as goal
-
-pub returns-then-n-gt256 : goal.returns-then-n-gt256
-returns-then-n-gt256 c = bit-above _ c.if-n-gt256.true
+use Rattle.commands.proofs.exponent_of.Goals.{else-n-le256-via-then-n-le256+else-n-eq1, else-n-le256-via-else-n-le256}
 
 pub returns-then-n-eq1 : goal.returns-then-n-eq1
-returns-then-n-eq1 c = bit-one _ c.if-n-gt256.false c.if-n-eq1.true
+returns-then-n-eq1 c = bit-one _ c.if-n-le256.true c.if-n-eq1.true
 
-pub returns-else-n-eq1 : goal.returns-else-n-eq1
-returns-else-n-eq1 c = bit-other _ c.if-n-gt256.false c.if-n-eq1.false
+pub returns-else-n-le256 : goal.returns-else-n-le256
+returns-else-n-le256 c = elim c.else-n-le256.branch [
+  | else-n-le256-via-then-n-le256+else-n-eq1 w ↦ bit-other _ w.if-n-le256.true w.if-n-eq1.false
+  | else-n-le256-via-else-n-le256 w ↦ bit-above _ w.if-n-le256.false
+]

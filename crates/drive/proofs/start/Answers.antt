@@ -5,25 +5,24 @@ use Rattle.drive.proofs.start.Goals as goal
 
 pub returns-then-not-is_unit : goal.returns-then-not-is_unit
 unfolding start_of
-returns-then-not-is_unit c = rw (← c.is_unit.ensures, c.if-not-is_unit.true) (c.refuse_start.ensures _ _)
+returns-then-not-is_unit c = rw (← c.is_unit.ensures, c.if-not-is_unit.true)
 
-pub returns-in-Good : goal.returns-in-Good
+pub returns-in-Ok : goal.returns-in-Ok
 unfolding start_of
-returns-in-Good c =
+returns-in-Ok c =
     let u = c.is_unit in
-    rw (← u.ensures, c.if-not-is_unit.false, ← by_check _ _ _ _, ← c.check_older-checked.ensures, c.in-Good.is)
-    (c.start_unit.ensures _)
+    rw (← u.ensures, c.if-not-is_unit.false, ← by_check _ _ _ _, ← c.check_older.ensures, c.in-Ok.is, c.start_unit.ensures _)
 
-pub returns-in-WrongLength : goal.returns-in-WrongLength
+pub returns-in-Err-WrongLength : goal.returns-in-Err-WrongLength
 unfolding start_of
-returns-in-WrongLength c =
+returns-in-Err-WrongLength c =
     let u = c.is_unit in
-    rw (← u.ensures, c.if-not-is_unit.false, ← by_check _ _ _ _, ← c.check_older-checked.ensures, c.in-WrongLength.is)
-    (c.refuse_start-in-WrongLength.ensures _ _)
+    let w = c.in-Err-WrongLength in
+    rw (← u.ensures, c.if-not-is_unit.false, ← by_check _ _ _ _, ← c.check_older.ensures, w.is, w.field-0-is)
 
-pub returns-in-Bad : goal.returns-in-Bad
+pub returns-in-Err-Bad : goal.returns-in-Err-Bad
 unfolding start_of
-returns-in-Bad c =
+returns-in-Err-Bad c =
     let u = c.is_unit in
-    rw (← u.ensures, c.if-not-is_unit.false, ← by_check _ _ _ _, ← c.check_older-checked.ensures, c.in-Bad.is)
-    (c.refuse_start-in-Bad.ensures _ _)
+    let w = c.in-Err-Bad in
+    rw (← u.ensures, c.if-not-is_unit.false, ← by_check _ _ _ _, ← c.check_older.ensures, w.is, w.field-0-is)

@@ -6,7 +6,4 @@ use Rattle.lines.proofs.FaultLaws.{place-most}
 use Rattle.firmware.proofs.dt_line_place.Goals as goal
 
 pub overflow_cast-result : goal.overflow_cast-result
-overflow_cast-result c = omega (arith, place-most c.args.body.now, ap (λ (f : Fault). f.place) c.check_line-fault.ensures)
-
-pub returns : goal.returns
-returns c = simp c.check_line-fault.ensures
+overflow_cast-result c = omega (arith, place-most c.args.body.now, ap (λ (f : Fault). f.place) c.fault_of.ensures)

@@ -17,18 +17,12 @@ has-run n done z h = rw (ne_eqb n 0 z, le-ltb (done + 1) n (omega arith))
 
 pub returns-then-n-eq0 : goal.returns-then-n-eq0
 unfolding again
-returns-then-n-eq0 c = simp (eq-eqb _ _ c.if-n-eq0.true, c.start_of.ensures)
+returns-then-n-eq0 c = simp (eq-eqb _ _ c.if-n-eq0.true, c.loop_at-open.ensures)
 
-pub returns-then-done-n : goal.returns-then-done-n
-returns-then-done-n c =
+pub returns-then-open-n : goal.returns-then-open-n
+returns-then-open-n c =
     let left = c.if-n-eq0.false in
-    simp (
-      c.start_of-then-done-n.ensures,
-      c.put_done-dones.ensures,
-      ← c.done_of-done.ensures,
-      ne_eqb _ _ left,
-      runs-again _ _ left c.if-done-n.true,
-    )
+    simp (c.put_loop.ensures, ← c.loop_at-open.ensures, ne_eqb _ _ left, runs-again _ _ left c.if-open-n.true)
 
 pub returns : goal.returns
-returns c = simp (← c.done_of-done.ensures, has-run _ _ c.if-n-eq0.false c.if-done-n.false)
+returns c = simp (← c.loop_at-open.ensures, has-run _ _ c.if-n-eq0.false c.if-open-n.false)

@@ -14,7 +14,7 @@ keep-requires c = (
 
 pub returns-then-outside : goal.returns-then-outside
 returns-then-outside c =
-    let there = only-outside c.args.h.place (sym c.outside.ensures ∙ c.if-outside.true) in
+    let there = only-outside c.args.h.progress.place (sym c.outside.ensures ∙ c.if-outside.true) in
     rw there (c.look_out.ensures _ _)
 
 pub returns : goal.returns

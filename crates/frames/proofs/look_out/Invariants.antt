@@ -1,20 +1,15 @@
 -- `frames::look_out` meets its contract: a byte that begins no frame leaves the receiver (`skipped`), and the call goes on as from
 -- the next one (the invariant). Assumes nothing.
-use Prim.Native.Nat.{ℕ, ◌≤◌, ◌-◌}
+use Prim.Native.Nat.{ℕ}
 use mathlib.Core.Path.{◌≡◌}
 use mathlib.Core.List.{List}
-use lib.ListN.{length, drop}
+use lib.ListN.{drop}
 use Rattle.frames.specs.declared.Place.{Place}
 use Rattle.frames.specs.Receive.{receiver_at, past, receive_of}
 use Rattle.frames.proofs.look_out.Given as goal
 
-abbrev pub invariant-loop-next : goal.invariant-loop-next
-invariant-loop-next l =
-    (l.i ≤ l.next)
-    × (l.next ≤ length l.bytes)
-    × ((u : ℕ) (body : List ℕ)
+abbrev pub invariant-loop-k : goal.invariant-loop-k
+invariant-loop-k l =
+    (u : ℕ) (body : List ℕ)
     → past l.i (receive_of (receiver_at Place.Outside l.kept body) u (drop l.i l.bytes))
-    ≡ past l.next (receive_of (receiver_at Place.Outside l.kept body) u (drop l.next l.bytes)))
-
-abbrev pub decreases-loop-next : goal.decreases-loop-next
-decreases-loop-next l = length l.bytes - l.next
+    ≡ past l.k (receive_of (receiver_at Place.Outside l.kept body) u (drop l.k l.bytes))

@@ -33,7 +33,7 @@ returns c =
     ∙ sym (c.loop-i.invariant.1 ∙ rw (e, drop-length, add-zero))
 
 pub loop-i-init : goal.loop-i-init
-loop-i-init c = (omega arith, sym (past-zero _))
+loop-i-init c = (omega arith, rw c.at-h.ensures (sym (past-zero _)))
 
 pub loop-i-smaller : goal.loop-i-smaller
 loop-i-smaller c = omega (arith, c.advance-a.ensures.0, c.advance-a.ensures.1)

@@ -5,5 +5,5 @@ use Rattle.host.proofs.add_run.Goals as goal
 pub returns-then-run : goal.returns-then-run
 returns-then-run c = run-added c.if-run.true c.write_byte.ensures
 
-pub returns : goal.returns
-returns c = no_run-added _ _ c.if-run.false c.requires
+pub returns-else-run : goal.returns-else-run
+returns-else-run c = no_run-added _ _ c.if-run.false c.requires

@@ -7,11 +7,10 @@ use Rattle.host.proofs.add_slot.Goals as goal
 pub returns-in_default : goal.returns-in_default
 returns-in_default c = rw c.in_default.is (nothing-added _ 0 (omega arith))
 
-pub returns-in_default-write_byte : goal.returns-in_default-write_byte
-returns-in_default-write_byte c =
-    rw c.in-Into.is (added_none (decimal c.in-Into.n) _ (written-added (rw c.in_default-write_byte.is at c.write_byte.ensures)))
+pub returns-in_err-at : goal.returns-in_err-at
+returns-in_err-at c =
+    rw (c.in-Some.is, c.from_residual.ensures) (added_none (decimal c.in-Some.n) _ (written-added (rw c.in_err-at.was at c.write_byte.ensures)))
 
 pub returns : goal.returns
 returns c =
-    rw c.in-Into.is
-    (added_more (written-added (rw c.in-Past.is at c.write_byte.ensures)) (written-added c.write_number.ensures))
+    rw c.in-Some.is (added_more (written-added (rw c.in_ok-at.was at c.write_byte.ensures)) (written-added c.write_number.ensures))

@@ -1,18 +1,18 @@
 -- `host::host_claims` meets its contract: each claim is a law of `ClaimLaws` or `LineLaws`. Assumes nothing.
-use Rattle.host.proofs.LineLaws.{fault-few}
+use Rattle.host.proofs.LineLaws.{fault_is}
 use Rattle.host.proofs.ClaimLaws as claim
 use Rattle.host.proofs.host_claims.Goals as goal
 
 pub returns : goal.returns
 returns c = record {
-  written = claim.written _ _ _;
-  refused = claim.refused _ _ _;
-  short = claim.short _ _ _;
+  written = claim.written _ _;
+  refused = claim.refused _ _;
+  short = claim.short _ _;
   refused_where = claim.refused_where;
   written_where = claim.written_where;
   short_where = claim.short_where;
   line_check = claim.line_check;
-  line-place = fault-few;
+  line-place = fault_is;
   no_place = claim.no_place;
   too_many = claim.too_many;
   count-over = claim.count-over;

@@ -1,15 +1,14 @@
 -- `host::write_checked` meets its contract: the line check's fault, or what `write_taken` answers. Assumes nothing.
-use borrow.Author.Tests.{ne_eqb}
+use mathlib.Core.Path.{sym, ◌∙◌}
+use Rattle.lines.proofs.CodeLaws.{checked-ok, checked-err}
 use Rattle.host.proofs.write_checked.Goals as goal
 
-pub returns-then-code-ne0 : goal.returns-then-code-ne0
-returns-then-code-ne0 c =
-    let fault = c.check_line-fault.ensures in
-    let refused = ne_eqb _ 0 c.if-code-ne0.true in
-    record { answers = rw (← fault, refused); leaves = rw (← fault, refused) }
+pub returns-in-Err : goal.returns-in-Err
+returns-in-Err c =
+    let e = checked-err _ (sym c.check_line.ensures ∙ c.in-Err.is) in
+    record { answers = rw (e.0, e.1); leaves = rw (e.0, e.1) }
 
-pub returns : goal.returns
-returns c =
-    let fault = c.check_line-fault.ensures in
-    let taken = c.if-code-ne0.false in
-    record { answers = rw (← fault, taken) c.write_taken.ensures.answers; leaves = rw (← fault, taken) c.write_taken.ensures.leaves }
+pub returns-in-Ok : goal.returns-in-Ok
+returns-in-Ok c =
+    let e = checked-ok _ (sym c.check_line.ensures ∙ c.in-Ok.is) in
+    record { answers = rw e c.write_taken.ensures.answers; leaves = rw e c.write_taken.ensures.leaves }

@@ -6,4 +6,4 @@ use Rattle.image.proofs.body_of.Goals as goal
 
 pub returns : goal.returns
 unfolding slot_body
-returns c = rw c.start_of-at.ensures (cut c.args.image.now _ _)
+returns c = rw c.start-at.ensures (cut c.args.image.now _ _)

@@ -11,20 +11,20 @@ use Rattle.image.proofs.WriteLaws.{entry_more, emptied}
 use Rattle.image.proofs.CallLaws.{cleared, not-cleared}
 use Rattle.image.proofs.clear.Goals as goal
 
-pub loop-slot-init : goal.loop-slot-init
+pub loop-number-init : goal.loop-number-init
 unfolding put empty_entries
-loop-slot-init c = (zero-le, refl, refl)
+loop-number-init c = (zero-le, refl, refl)
 
-pub loop-slot-preserved : goal.loop-slot-preserved
-loop-slot-preserved c =
+pub loop-number-preserved : goal.loop-number-preserved
+loop-number-preserved c =
     let image = c.args.image.now in
-    (omega arith, c.put_entry.ensures ∙ rw c.loop-slot.invariant.1 (entry_more image c.loop-slot.slot), c.put_entry.auto.image ∙ c.loop-slot.invariant.2)
+    (omega arith, c.put_entry.ensures ∙ rw c.loop-number.invariant.1 (entry_more image c.loop-number.number), c.put_entry.auto.image ∙ c.loop-number.invariant.2)
 
 pub returns : goal.returns
 returns c =
     let image = c.args.image.now in
-    let e : c.loop-slot.slot ≡ slots = omega arith in
-    let f : c.loop-slot.image ≡ put image 0 (empty_entries slots) = c.loop-slot.invariant.1 ∙ ap (λ (k : ℕ). put image 0 (empty_entries k)) e in
+    let e : c.loop-number.number ≡ slots = omega arith in
+    let f : c.loop-number.image ≡ put image 0 (empty_entries slots) = c.loop-number.invariant.1 ∙ ap (λ (k : ℕ). put image 0 (empty_entries k)) e in
     let long : length image ≡ image_bytes = c.if-image-ne-IMAGE_BYTES.false in
     let zeroed = ap (λ (x : List ℕ). put_in x contents_bytes (replicate (image_bytes - contents_bytes) 0)) f in
     cleared image _ long (c.wipe_at.ensures.leaves ∙ zeroed ∙ emptied image long)
@@ -33,4 +33,4 @@ pub returns-then-image-ne-IMAGE_BYTES : goal.returns-then-image-ne-IMAGE_BYTES
 returns-then-image-ne-IMAGE_BYTES c = not-cleared c.args.image.now c.if-image-ne-IMAGE_BYTES.true
 
 pub shape_of-image : goal.shape_of-image
-shape_of-image c = c.wipe_at.auto.dst ∙ c.loop-slot.invariant.2
+shape_of-image c = c.wipe_at.auto.dst ∙ c.loop-number.invariant.2

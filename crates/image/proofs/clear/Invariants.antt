@@ -7,8 +7,8 @@ use Rattle.parts.specs.Parts.{put}
 use Rattle.image.specs.Image.{slots, empty_entries}
 use Rattle.image.proofs.clear.Given as goal
 
-abbrev pub invariant-loop-slot : goal.invariant-loop-slot
-invariant-loop-slot l = (l.slot ≤ slots) × (l.image ≡ put l.initial.image 0 (empty_entries l.slot)) × (length l.image ≡ length l.initial.image)
+abbrev pub invariant-loop-number : goal.invariant-loop-number
+invariant-loop-number l = (l.number ≤ slots) × (l.image ≡ put l.initial.image 0 (empty_entries l.number)) × (length l.image ≡ length l.initial.image)
 
-abbrev pub decreases-loop-slot : goal.decreases-loop-slot
-decreases-loop-slot l = slots - l.slot
+abbrev pub decreases-loop-number : goal.decreases-loop-number
+decreases-loop-number l = slots - l.number

@@ -9,4 +9,4 @@ pub returns : goal.returns
 returns c =
     let a = c.args in
     c.wipe_at.ensures.leaves
-    ∙ rw (c.put_at.ensures.leaves, c.start_of-start.ensures) (body-put a.image.now a.slot (omega arith) (omega arith) a.text.now (omega arith))
+    ∙ rw (c.put_at.ensures.leaves, c.start-start.ensures) (body-put a.image.now a.slot.number (omega arith) (omega arith) a.text.now (omega arith))

@@ -1,13 +1,24 @@
 -- `lines::line_of` meets its contract: what stands before the last `R`, or the whole. Assumes nothing.
-use mathlib.Core.Path.{◌∙◌}
+use Prim.Native.Nat.{◌-◌}
+use mathlib.Core.Path.{◌≡◌, ◌∙◌}
+use native.Mathlib.Omega.{arith}
+use lib.ListN.{length, get_or}
 use Rattle.lines.proofs.BodyLaws.{line-empty, line-run, line-held}
 use Rattle.lines.proofs.line_of.Goals as goal
+use Rattle.lines.proofs.line_of.Goals.{in_default-via-then-body-lt1, in_default-via-else-body-lt1+in_default-1}
 
-pub returns-then-n-eq0 : goal.returns-then-n-eq0
-returns-then-n-eq0 c = c.taken_of.ensures ∙ line-empty _ c.if-n-eq0.true
+pub returns-in-82 : goal.returns-in-82
+returns-in-82 c =
+    let b = c.args.body.now in
+    let e : get_or b (length b - 1) 0 ≡ 82 = omega arith in
+    c.taken_of.ensures ∙ line-run b e
 
-pub returns-then-body-n-eq82 : goal.returns-then-body-n-eq82
-returns-then-body-n-eq82 c = c.taken_of-then-body-n-eq82.ensures ∙ line-run _ c.if-body-n-eq82.true
-
-pub returns : goal.returns
-returns c = c.taken_of-2.ensures ∙ line-held _ c.if-body-n-eq82.false
+pub returns-in_default : goal.returns-in_default
+returns-in_default c =
+    let b = c.args.body.now in
+    elim c.in_default.branch [
+      | in_default-via-then-body-lt1 w ↦ c.taken_of-in_default.ensures ∙ line-empty b (grind arith)
+      | in_default-via-else-body-lt1+in_default-1 w ↦
+          let e : get_or b (length b - 1) 0 ≡ 82 → ⊥ = omega arith in
+          c.taken_of-in_default.ensures ∙ line-held b e
+    ]

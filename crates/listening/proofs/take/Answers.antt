@@ -1,39 +1,21 @@
--- `listening::take` meets its contract: each arm is the definition's clause.
+-- `listening::take` meets its contract: in each place what a byte makes of it is the definition's; in the data of an answer one more counts (`one_more_data`).
 -- Assumes nothing.
+use Rattle.checksum.specs.Checksum.{xor}
+use Rattle.listening.specs.declared.Finish.{Finish}
+use Rattle.listening.specs.declared.Spot.{Spot}
+use Rattle.listening.proofs.Places.{one_more_data}
 use Rattle.listening.proofs.take.Goals as goal
 
-pub returns-in-Outside : goal.returns-in-Outside
-returns-in-Outside c = simp (c.stand.ensures, c.in-Outside.is)
-
-pub returns-in-Address : goal.returns-in-Address
-returns-in-Address c = simp (c.stand-in-Address.ensures, c.in_address.ensures, c.in-Address.is)
-
-pub returns-in-Body : goal.returns-in-Body
-returns-in-Body c = simp (c.end_at.ensures, c.in-Body.is)
-
-pub returns-in-AnswerStatus : goal.returns-in-AnswerStatus
-returns-in-AnswerStatus c = simp (c.stand-in-AnswerStatus.ensures, c.in_status.ensures, c.in-AnswerStatus.is)
-
 pub returns-in-AnswerData : goal.returns-in-AnswerData
-returns-in-AnswerData c = simp (c.stand-in-AnswerData.ensures, c.in_data.ensures, c.in-AnswerData.is)
-
-pub returns-in-AnswerEnd : goal.returns-in-AnswerEnd
-returns-in-AnswerEnd c = simp (c.end_at-in-AnswerEnd.ensures, c.in-AnswerEnd.is)
-
-pub returns-in-OemAddress : goal.returns-in-OemAddress
-returns-in-OemAddress c = simp (c.stand-in-OemAddress.ensures, c.in_oem_address.ensures, c.in-OemAddress.is)
-
-pub returns-in-OemSequence : goal.returns-in-OemSequence
-returns-in-OemSequence c = simp (c.stand-in-OemSequence.ensures, c.in_oem_sequence.ensures, c.with_byte.ensures, c.in-OemSequence.is)
-
-pub returns-in-OemBody : goal.returns-in-OemBody
-returns-in-OemBody c = simp (c.stand-in-OemBody.ensures, c.in_oem_body.ensures, c.with_byte-in-OemBody.ensures, c.in-OemBody.is)
-
-pub returns-in-OemStatus : goal.returns-in-OemStatus
-returns-in-OemStatus c = simp (c.stand-in-OemStatus.ensures, c.in_oem_status.ensures, c.with_byte-in-OemStatus.ensures, c.in-OemStatus.is)
+returns-in-AnswerData c =
+    let at = c.in-AnswerData in
+    let more = one_more_data (λ n. Spot.AnswerData at.status n) at.n c.args.b (Spot.AnswerEnd at.status) Spot.Outside c.saturating_add.ensures in
+    rw (at.is, c.stand-in-AnswerData.ensures, c.in_data.ensures, more)
 
 pub returns-in-OemData : goal.returns-in-OemData
-returns-in-OemData c = simp (c.stand-in-OemData.ensures, c.in_oem_data.ensures, c.with_byte-in-OemData.ensures, c.in-OemData.is)
-
-pub returns-in-OemSum : goal.returns-in-OemSum
-returns-in-OemSum c = simp (c.end_at-in-OemSum.ensures, c.in-OemSum.is)
+returns-in-OemData c =
+    let at = c.in-OemData in
+    let sum = xor at.s c.args.b in
+    let end = Spot.OemSum (Finish.AnswerOf c.args.unit at.status) sum in
+    let more = one_more_data (λ n. Spot.OemData at.status n sum) at.n c.args.b end (Spot.OemBody Finish.Nothing sum) c.saturating_add-in-OemData.ensures in
+    rw (at.is, c.stand-in-OemData.ensures, c.in_data-in-OemData.ensures, c.with_byte-sum.ensures, more)

@@ -15,5 +15,6 @@ returns c =
       c.add_number-2.ensures.0,
       c.add_byte-number.ensures,
       c.add_number.ensures.0,
+      c.from.ensures,
     )
     (line-whole a.unit a.r (omega arith) c.add_number-2.ensures.1 c.add_number-3.ensures.1)

@@ -13,8 +13,8 @@ overflow_sub-result c = omega (arith, simp c.if-up.false at c.room_of.ensures)
 
 pub returns-then-up : goal.returns-then-up
 unfolding counted room
-returns-then-up c = simp (c.if-up.true, c.least-n.ensures, c.room_of.ensures)
+returns-then-up c = simp (c.if-up.true, c.min-n.ensures, c.room_of.ensures)
 
 pub returns-else-up : goal.returns-else-up
 unfolding counted room
-returns-else-up c = simp (c.if-up.false, c.least-n.ensures, c.room_of.ensures)
+returns-else-up c = simp (c.if-up.false, c.min-n.ensures, c.room_of.ensures)

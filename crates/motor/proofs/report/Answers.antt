@@ -2,10 +2,10 @@
 use Rattle.motor.specs.Motion.{reported}
 use Rattle.motor.proofs.report.Goals as goal
 
-pub returns-then-l : goal.returns-then-l
+pub returns-then-m : goal.returns-then-m
 unfolding reported
-returns-then-l c = simp (c.count_steps.ensures, c.if-l.true)
+returns-then-m c = simp (c.count_steps.ensures, c.if-m.true)
 
-pub returns-else-l : goal.returns-else-l
+pub returns-else-m : goal.returns-else-m
 unfolding reported
-returns-else-l c = simp c.if-l.false
+returns-else-m c = simp c.if-m.false

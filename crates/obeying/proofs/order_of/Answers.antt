@@ -6,33 +6,28 @@ use Rattle.obeying.proofs.DeedLaws.{refused-place}
 use Rattle.obeying.proofs.order_of.Goals as goal
 
 pub refuse_at-requires : goal.refuse_at-requires
-unfolding body_obeyed
-refuse_at-requires c = refused-place _ (sym c.body_of-kind.ensures ∙ c.in-Refused.is)
+refuse_at-requires c = refused-place _ (sym c.body_of.ensures ∙ c.in-Err.is)
 
-pub order_line-requires : goal.order_line-requires
+pub returns-in-Err : goal.returns-in-Err
 unfolding body_obeyed
-order_line-requires c = sym c.body_of-kind.ensures ∙ c.in-Line.is
+returns-in-Err c = rw (← c.body_of.ensures, c.in-Err.is) (c.refuse_at.ensures _)
 
-pub returns-in-Refused : goal.returns-in-Refused
+pub returns-in-Ok-Empty : goal.returns-in-Ok-Empty
 unfolding body_obeyed
-returns-in-Refused c = rw (← c.body_of-kind.ensures, c.in-Refused.is) (c.refuse_at.ensures _)
+returns-in-Ok-Empty c = rw (← c.body_of.ensures, c.in-Ok-Empty.is, c.in-Ok-Empty.field-0-is) (c.hold.ensures _)
 
-pub returns-in-Empty : goal.returns-in-Empty
+pub returns-in-Ok-Immediate : goal.returns-in-Ok-Immediate
 unfolding body_obeyed
-returns-in-Empty c = rw (← c.body_of-kind.ensures, c.in-Empty.is) (c.hold.ensures _)
+returns-in-Ok-Immediate c = rw (← c.body_of.ensures, c.in-Ok-Immediate.is, c.in-Ok-Immediate.field-0-is) c.order_immediate.ensures
 
-pub returns-in-Immediate : goal.returns-in-Immediate
+pub returns-in-Ok-Run : goal.returns-in-Ok-Run
 unfolding body_obeyed
-returns-in-Immediate c = rw (← c.body_of-kind.ensures, c.in-Immediate.is) c.order_immediate.ensures
+returns-in-Ok-Run c = rw (← c.body_of.ensures, c.in-Ok-Run.is, c.in-Ok-Run.field-0-is) c.order_run.ensures
 
-pub returns-in-Run : goal.returns-in-Run
+pub returns-in-Ok-Again : goal.returns-in-Ok-Again
 unfolding body_obeyed
-returns-in-Run c = rw (← c.body_of-kind.ensures, c.in-Run.is) c.order_run.ensures
+returns-in-Ok-Again c = rw (← c.body_of.ensures, c.in-Ok-Again.is, c.in-Ok-Again.field-0-is) c.order_again.ensures
 
-pub returns-in-Again : goal.returns-in-Again
+pub returns-in-Ok-Line : goal.returns-in-Ok-Line
 unfolding body_obeyed
-returns-in-Again c = rw (← c.body_of-kind.ensures, c.in-Again.is) c.order_again.ensures
-
-pub returns-in-Line : goal.returns-in-Line
-unfolding body_obeyed
-returns-in-Line c = rw (← c.body_of-kind.ensures, c.in-Line.is) c.order_line.ensures
+returns-in-Ok-Line c = rw (← c.body_of.ensures, c.in-Ok-Line.is, c.in-Ok-Line.field-0-is) c.order_line.ensures

@@ -9,8 +9,10 @@ use Rattle.ramp.proofs.finite_peak.Goals as goal
 
 pub overflow_cast-result : goal.overflow_cast-result
 overflow_cast-result c =
-    let a = c.args in
-    omega (arith, c.greatest_under.ensures, (greatest_is a.v (double_unit * a.l * a.n)).under)
+    omega (arith, c.greatest_under.ensures, (greatest_is c.from-3.result (double_unit * c.from.result * c.from-2.result)).under)
 
 pub overflow_mul-room-2 : goal.overflow_mul-room-2
-overflow_mul-room-2 c = Fits-le (mul-le-mul (mul-le-mul_left double_unit c.requires.1.1) c.requires.2.1) (Fits-lit tt)
+overflow_mul-room-2 c = rw (c.from.ensures, c.from-2.ensures) (Fits-le (mul-le-mul (mul-le-mul_left double_unit c.requires.1.1) c.requires.2.1) (Fits-lit tt))
+
+pub returns : goal.returns
+returns c = simp (c.greatest_under.ensures, c.from.ensures, c.from-2.ensures, c.from-3.ensures)

@@ -18,7 +18,7 @@ pub returns-then-v-room : goal.returns-then-v-room
 returns-then-v-room c = sym (whole c.if-v-room.true)
 
 pub loop-peak-init : goal.loop-peak-init
-loop-peak-init c = rw (c.least-peak.ensures, c.step.ensures) (begun _ c.guess.ensures.0)
+loop-peak-init c = rw (c.min-peak.ensures, c.step.ensures) (begun _ c.guess.ensures.0)
 
 pub overflow_mul-peak : goal.overflow_mul-peak
 overflow_mul-peak c = Fits-le (square_le (omega arith)) (Fits-lit tt)

@@ -7,6 +7,6 @@ pub returns-then-x-low : goal.returns-then-x-low
 unfolding outside
 returns-then-x-low c = simp (lt-ltb _ _ c.if-x-low.true)
 
-pub returns : goal.returns
+pub returns-else-x-low : goal.returns-else-x-low
 unfolding outside
-returns c = simp (le-ltb _ _ c.if-x-low.false)
+returns-else-x-low c = simp (le-ltb _ _ c.if-x-low.false)

@@ -4,4 +4,4 @@ use Rattle.turns.proofs.end_run.Goals as goal
 
 pub returns : goal.returns
 unfolding ended
-returns c = simp c.stop-d.ensures
+returns c = simp c.stop-c.ensures

@@ -12,7 +12,6 @@ returns c = simp (
   c.stay.ensures,
   c.move_on.ensures,
   c.serve.ensures,
-  c.flag_of.ensures,
   c.if-is_free.false,
   ← c.is_free.ensures,
 )

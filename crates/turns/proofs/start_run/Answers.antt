@@ -4,4 +4,4 @@ use Rattle.turns.proofs.start_run.Goals as goal
 
 pub returns : goal.returns
 unfolding started
-returns c = simp c.begin-d.ensures
+returns c = simp c.begin-c.ensures

@@ -4,7 +4,6 @@ use mathlib.Core.Path.{◌≡◌}
 use mathlib.Core.Bool.{false, not, true≢false}
 use lib.Dec.{T}
 use lib.Ieee.{Float, nan, inf, fin, is_nan, ne}
-use borrow.Author.Rules.{rules}
 use Rattle.bench.proofs.calls.bits_of.Goals as goal
 
 equals_itself : (x : Float) → ne x x ≡ false → T (not (is_nan x))
@@ -15,9 +14,3 @@ equals_itself (fin s m e) h = tt
 
 pub float_to_bits-result : goal.float_to_bits-result
 float_to_bits-result c = equals_itself c.args.x c.if-x.false
-
-pub returns-then-x : goal.returns-then-x
-returns-then-x c = search rules
-
-pub returns-else-x : goal.returns-else-x
-returns-else-x c = search rules

@@ -1,10 +1,9 @@
 -- `commands::fit_required` meets its contract: the operand is a number in its range, or it is refused. Assumes nothing.
-use borrow.Enum.Refused.{opened}
 use Rattle.commands.proofs.ReadingLaws.{not-number}
 use Rattle.commands.proofs.fitting.fit_required.Goals as goal
 
 pub returns-in_default : goal.returns-in_default
-returns-in_default = (λ c l. not-number l _ c.args.operand _ (opened c.in_default.in_default-own.keys2))
+returns-in_default = (λ c l. not-number l _ c.args.operand _ c.in_default.not-Number)
 
 pub overflow_sub-next : goal.overflow_sub-next
 overflow_sub-next c = rw c.in-Number.is at c.requires

@@ -3,17 +3,17 @@ use native.Mathlib.Omega.{arith}
 use Rattle.commands.proofs.MadeLaws.{lettered-written, lettered-most, lettered-room}
 use Rattle.commands.proofs.writing.write_number.Goals as goal
 
-pub returns-in_default : goal.returns-in_default
-returns-in_default c =
+pub returns-in_err-end : goal.returns-in_err-end
+returns-in_err-end c =
     let a = c.args in
-    absurd (lettered-room a.letter a.n (omega arith) c.write_number.ensures c.in_default.is)
+    absurd (lettered-room a.letter a.n (omega arith) c.write_number.ensures c.in_err-end.was)
 
 pub slice_bounds-write_bytes-end : goal.slice_bounds-write_bytes-end
 slice_bounds-write_bytes-end c =
     let a = c.args in
-    omega (arith, lettered-most a.letter a.n (omega arith) c.write_number.ensures _ c.in-Past.is)
+    omega (arith, lettered-most a.letter a.n (omega arith) c.write_number.ensures _ c.in_ok-end.was)
 
 pub returns : goal.returns
 returns c =
     let a = c.args in
-    lettered-written a.letter a.n (omega arith) c.write_number.ensures a.buffer.now a.at _ c.in-Past.is c.write_bytes.ensures
+    lettered-written a.letter a.n (omega arith) c.write_number.ensures a.buffer.now a.at _ c.in_ok-end.was c.write_bytes.ensures

@@ -8,7 +8,7 @@ use Rattle.digits.proofs.Writing.{length_some, length_most, length-least, length
 use Rattle.digits.proofs.taking.count_digits.Goals as goal
 
 pub loop-k-init : goal.loop-k-init
-loop-k-init c = (omega arith, omega arith, length_some _)
+loop-k-init c = length_some _
 
 pub returns-then-n-power_of : goal.returns-then-n-power_of
 returns-then-n-power_of c =
@@ -22,8 +22,7 @@ pub loop-k-preserved : goal.loop-k-preserved
 loop-k-preserved c =
     let n = c.args.n in
     let k = c.loop-k.k in
-    let l : k < length (decimal n) = length-least k n (omega (arith, c.power_of.ensures, c.if-n-power_of.false)) in
-    (omega arith, omega arith, omega (arith, l))
+    omega (arith, length-least k n (omega (arith, c.power_of.ensures, c.if-n-power_of.false)))
 
 pub returns : goal.returns
 returns c = omega (arith, length-ten c.args.n (omega arith))

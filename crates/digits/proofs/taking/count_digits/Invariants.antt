@@ -1,12 +1,9 @@
 -- `taking::count_digits` meets its contract: n has at least k digits as long as no power was above it, and no more than the first that is.
 -- Assumes nothing.
-use Prim.Native.Nat.{◌-◌, ◌≤◌}
+use Prim.Native.Nat.{◌≤◌}
 use lib.ListN.{length}
 use Rattle.digits.specs.Decimal.{decimal}
 use Rattle.digits.proofs.taking.count_digits.Given as goal
 
 abbrev pub invariant-loop-k : goal.invariant-loop-k
-invariant-loop-k l = (1 ≤ l.k) × (l.k ≤ 10) × (l.k ≤ length (decimal l.n))
-
-abbrev pub decreases-loop-k : goal.decreases-loop-k
-decreases-loop-k l = 10 - l.k
+invariant-loop-k l = l.k ≤ length (decimal l.n)

@@ -1,36 +1,31 @@
 -- `taking::make_digits` meets its contract. The invariant: the digits made, then those of what is left, are those of n.
 -- Assumes nothing.
+use Prim.Native.Nat.{ℕ, suc, ◌+◌, ◌-◌, ◌<◌}
+use mathlib.Core.Path.{◌≡◌}
+use mathlib.Core.List.{List}
 use native.Mathlib.Omega.{arith}
-use mathlib.Core.Path.{sym, ◌∙◌}
-use Rattle.digits.proofs.Powers.{making, next_power, made_more, made}
+use Rattle.digits.proofs.Powers.{Making, making, next_power, made_more, made}
 use Rattle.digits.proofs.taking.make_digits.Goals as goal
 
-pub bounds-digits-i : goal.bounds-digits-i
-bounds-digits-i c = omega (arith, c.loop-left.invariant.place, c.loop-left.invariant.long)
+-- a digit is still to be made
+more : {n : ℕ} {digits : List ℕ} {rest i count : ℕ} → Making n digits rest i (count - i) → i < count → Making n digits rest i (suc (count - 1 - i))
+more {i = i} {count = count} m l = let e : count - i ≡ suc (count - 1 - i) = omega arith in rw e at m
 
-pub loop-left-preserved : goal.loop-left-preserved
-loop-left-preserved c =
-    let p = c.power_of.ensures in
-    let t = c.take_digit-taken.ensures in
-    made_more _ _ _ _ _ _ _ c.loop-left.invariant c.loop-left-test.true (rw p at t).0 (rw p at t).1 t.2
-
-pub returns : goal.returns
-returns c = (omega (arith, c.loop-left.invariant.place), made _ _ _ _ _ c.loop-left.invariant (omega (arith, c.loop-left-test.false)))
-
-pub loop-left-init : goal.loop-left-init
-loop-left-init c = making _ _ _ (omega arith) c.requires c.count_digits-left.ensures
-
-pub power_of-requires : goal.power_of-requires
-power_of-requires c = omega (arith, c.loop-left.invariant.place)
+pub loop-i-init : goal.loop-i-init
+loop-i-init c = making _ _ _ (omega arith) c.told-digits (omega arith)
 
 pub take_digit-taken-requires : goal.take_digit-taken-requires
-take_digit-taken-requires c = rw c.power_of.ensures (next_power _ _ _ _ _ c.loop-left.invariant c.loop-left-test.true)
+take_digit-taken-requires c = rw c.power_of.ensures (next_power _ _ _ _ _ (more c.loop-i.invariant c.loop-i-test.true))
 
-pub overflow_add-digits : goal.overflow_add-digits
-overflow_add-digits c = omega (arith, c.take_digit-taken.ensures.2)
+pub loop-i-preserved : goal.loop-i-preserved
+loop-i-preserved c =
+    let t = rw c.power_of.ensures at c.take_digit-taken.ensures in
+    let left : c.count_digits-count.result - (c.loop-i.i + 1) ≡ c.count_digits-count.result - 1 - c.loop-i.i = omega arith in
+    rw left (made_more _ _ _ _ _ _ _ (more c.loop-i.invariant c.loop-i-test.true) t.0 t.1 t.2)
 
-pub overflow_add-i : goal.overflow_add-i
-overflow_add-i c = omega (arith, c.loop-left.invariant.place)
-
-pub shape_of-digits : goal.shape_of-digits
-shape_of-digits c = c.loop-left.invariant.long ∙ sym c.requires
+pub returns : goal.returns
+returns c =
+    let m = c.loop-i.invariant in
+    let end : c.loop-i.i ≡ c.count_digits-count.result = omega arith in
+    let none : c.count_digits-count.result - c.loop-i.i ≡ 0 = omega arith in
+    (omega (arith, m.place), rw (← end) (made _ _ _ _ (rw none at m)))

@@ -1,12 +1,7 @@
 -- `drive::answer_completed` meets its contract: only a frame for this unit alone is answered. Assumes nothing.
-use Rattle.drive.proofs.FeedLaws.{answers-none, answers-alone}
+use Rattle.std.proofs.Common.{inl, inr}
+use Rattle.drive.proofs.FeedLaws.{answers-none}
 use Rattle.drive.proofs.answering.answer_completed.Goals as goal
 
-pub returns-in-Alone : goal.returns-in-Alone
-returns-in-Alone c = answers-alone c.in-Alone.is c.answer_frame.ensures
-
 pub returns-in-Nothing : goal.returns-in-Nothing
-returns-in-Nothing c = answers-none (rw c.in-Nothing.is)
-
-pub returns-in-Group : goal.returns-in-Group
-returns-in-Group c = answers-none (rw c.in-Group.is)
+returns-in-Nothing c = elim c.in-Nothing.is [ inl e ↦ answers-none (rw e) | inr e ↦ answers-none (rw e) ]

@@ -1,12 +1,7 @@
 -- `drive::write_bytes` meets its contract: with room for the longest packet, one is always written.
 -- Assumes nothing.
-use Rattle.drive.proofs.AnswerLaws.{written-past, never_none}
+use Rattle.drive.proofs.AnswerLaws.{written-past}
 use Rattle.drive.proofs.answering.write_bytes.Goals as goal
 
-pub returns-in_default : goal.returns-in_default
-returns-in_default c =
-    absurd (never_none c.args.framing c.requires.0 c.requires.1 c.write_framed.ensures c.in_default.is)
-
 pub returns : goal.returns
-returns c =
-    written-past c.args.framing c.requires.0 c.requires.1 c.write_framed.ensures c.in-Past.is
+returns c = written-past c.args.framing c.requires.0 c.requires.1 c.write_framed.ensures c.unwrap_or.ensures

@@ -15,4 +15,4 @@ returns c =
     frame-fed a.u a.h a.body.now a.text.now a.image.now a.buffer.now kept c.obey-o.ensures
     c.apply.ensures
     (answer_parts a.h.framing _ _ c.status_after-status.ensures c.answer_completed-answered.ensures)
-    c.last_after-number.ensures
+    c.last_after-last.ensures

@@ -1,26 +1,15 @@
--- `lines::begins_immediate` meets its contract: each arm knows its byte, and the last that it is none of them. Assumes nothing.
-use mathlib.Core.Path.{sym}
-use mathlib.Core.List.{[], ◌∷◌}
+-- `lines::begins_immediate` meets its contract: the byte is one of the four, or none of them. Assumes nothing.
+use mathlib.Core.Logic.{inl, inr}
+use borrow.Author.Tests.{ne_eqb}
 use Rattle.commands.specs.Table.{one_of}
-use Rattle.commands.proofs.TableLaws.{none_of, among}
 use Rattle.lines.proofs.kinds.begins_immediate.Goals as goal
 
 pub returns-in-84 : goal.returns-in-84
-unfolding one_of among
-returns-in-84 c = rw c.in-84.is
-
-pub returns-in-81 : goal.returns-in-81
-unfolding one_of among
-returns-in-81 c = rw c.in-81.is
-
-pub returns-in-36 : goal.returns-in-36
-unfolding one_of among
-returns-in-36 c = rw c.in-36.is
-
-pub returns-in-63 : goal.returns-in-63
-unfolding one_of among
-returns-in-63 c = rw c.in-63.is
+unfolding one_of
+returns-in-84 c = elim c.in-84.is [ inl e ↦ rw e | inr (inl e) ↦ rw e | inr (inr (inl e)) ↦ rw e | inr (inr (inr e)) ↦ rw e ]
 
 pub returns-in_default : goal.returns-in_default
-unfolding one_of among
-returns-in_default c = sym (none_of (84 ∷ 81 ∷ 36 ∷ 63 ∷ []) (63 ∷ 36 ∷ 81 ∷ 84 ∷ []) _ tt c.in_default.in_default-own.rest)
+unfolding one_of
+returns-in_default c =
+    let n = c.in_default.in_default-own.rest.1 in
+    rw (ne_eqb _ 84 (λ e. n (inr (inr (inr e)))), ne_eqb _ 81 (λ e. n (inr (inr (inl e)))), ne_eqb _ 36 (λ e. n (inl e)), ne_eqb _ 63 (λ e. n (inr (inl e))))

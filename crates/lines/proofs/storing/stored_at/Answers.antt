@@ -7,15 +7,15 @@ use Rattle.lines.proofs.storing.stored_at.Goals as goal
 pub overflow_add-result : goal.overflow_add-result
 overflow_add-result c =
     let a = c.args in
-    let h = stored-place a.text.now a.at a.run (omega arith) c.judge-judged.ensures c.in-Refused.is in
+    let h = stored-place a.text.now a.at a.run (omega arith) c.judge.ensures c.in-Err.is in
     omega arith
 
-pub returns-in-Passes : goal.returns-in-Passes
-returns-in-Passes c =
+pub returns-in-Ok : goal.returns-in-Ok
+returns-in-Ok c =
     let a = c.args in
-    stored-taken a.text.now a.slot a.at a.run c.judge-judged.ensures c.in-Passes.is
+    stored-taken a.text.now a.slot a.at a.run c.judge.ensures c.in-Ok.is
 
-pub returns-in-Refused : goal.returns-in-Refused
-returns-in-Refused c =
+pub returns-in-Err : goal.returns-in-Err
+returns-in-Err c =
     let a = c.args in
-    stored-taken a.text.now a.slot a.at a.run c.judge-judged.ensures c.in-Refused.is
+    stored-taken a.text.now a.slot a.at a.run c.judge.ensures c.in-Err.is

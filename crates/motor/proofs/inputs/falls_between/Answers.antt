@@ -6,6 +6,6 @@ pub returns-then-is_high : goal.returns-then-is_high
 unfolding falls
 returns-then-is_high c = simp (c.is_high-then-is_high.ensures, c.if-is_high.true, ← c.is_high.ensures)
 
-pub returns : goal.returns
+pub returns-else-is_high : goal.returns-else-is_high
 unfolding falls
-returns c = simp (c.if-is_high.false, ← c.is_high.ensures)
+returns-else-is_high c = simp (c.if-is_high.false, ← c.is_high.ensures)

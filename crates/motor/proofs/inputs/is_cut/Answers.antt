@@ -1,12 +1,15 @@
--- `motor::is_cut` meets its contract: the test of `f` is the one of the definition. Assumes nothing.
-use borrow.Author.Tests.{eq-eqb, ne_eqb}
+-- `motor::is_cut` meets its contract: high is cut for f0, and low for any other f. Assumes nothing.
+use mathlib.Core.Path.{◌≡◌, refl}
+use mathlib.Core.Bool.{Bool, true, false, cond, not, beq}
 use Rattle.motor.specs.Inputs.{cut}
 use Rattle.motor.proofs.inputs.is_cut.Goals as goal
 
-pub returns-then-flag-eq0 : goal.returns-then-flag-eq0
-unfolding cut
-returns-then-flag-eq0 c = simp (c.is_high.ensures, eq-eqb _ _ c.if-flag-eq0.true)
+same : (h f : Bool) → beq h f ≡ cond f h (not h)
+same true true = refl
+same true false = refl
+same false true = refl
+same false false = refl
 
 pub returns : goal.returns
 unfolding cut
-returns c = simp (c.is_high-2.ensures, ne_eqb _ _ c.if-flag-eq0.false)
+returns c = rw c.is_high.ensures (same _ _)

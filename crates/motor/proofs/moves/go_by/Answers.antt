@@ -5,7 +5,7 @@ use Rattle.motor.proofs.moves.go_by.Goals as goal
 
 pub returns-then-n-eq0 : goal.returns-then-n-eq0
 unfolding relative
-returns-then-n-eq0 c = simp (c.wait_for.ensures, c.room_of-far.ensures, eq-eqb _ _ c.if-n-eq0.true)
+returns-then-n-eq0 c = simp (c.go_endless.ensures, c.room_of.ensures, eq-eqb _ _ c.if-n-eq0.true)
 
 pub returns : goal.returns
 unfolding relative

@@ -17,7 +17,7 @@ pub returns : goal.returns
 unfolding endless_on
 returns c =
     simp (
-      c.wait_for-2.ensures,
+      c.go_endless.ensures,
       ne_eqb _ _ c.if-far-eq0.false,
       ← c.room_of-far.ensures,
       c.if-falls_between.false,

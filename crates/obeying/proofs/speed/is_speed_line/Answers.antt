@@ -1,27 +1,16 @@
 -- `obeying::is_speed_line` meets its contract: the same tests as the definition's. Assumes nothing.
-use borrow.Author.Tests.{eq-eqb, ne_eqb}
-use Rattle.obeying.specs.Speed.{speed_line}
-use Rattle.obeying.proofs.SpeedLaws.{no_bytes-line, by_last-byte}
+use native.Mathlib.Omega.{arith}
+use Rattle.obeying.proofs.SpeedLaws.{by_operand, short-line, other_letter, other_end}
 use Rattle.obeying.proofs.speed.is_speed_line.Goals as goal
 
-pub returns-then-body-ne86 : goal.returns-then-body-ne86
-unfolding speed_line
-returns-then-body-ne86 c = simp (ne_eqb _ _ c.if-body-ne86.true)
+pub returns-in-86 : goal.returns-in-86
+returns-in-86 c = by_operand c.args.body.now (omega arith) (omega arith) c.read_operand.ensures c.operand_end.ensures
 
-pub returns-then-operand_end-n : goal.returns-then-operand_end-n
-unfolding speed_line
-returns-then-operand_end-n c =
-    simp (
-      eq-eqb _ _ c.if-body-ne86.false,
-      ← c.read_operand.ensures,
-      ← c.operand_end.ensures,
-      ne_eqb _ _ c.if-operand_end-n.true,
-    )
+pub returns-in_default : goal.returns-in_default
+returns-in_default c = short-line _ (omega arith)
 
-pub returns : goal.returns
-returns c =
-    by_last-byte _ c.if-body-ne86.false c.read_operand.ensures c.operand_end.ensures
-    c.if-operand_end-n.false
+pub returns-in_default-2 : goal.returns-in_default-2
+returns-in_default-2 c = other_end c.args.body.now (λ h. omega arith)
 
-pub returns-then-n-eq0 : goal.returns-then-n-eq0
-returns-then-n-eq0 c = no_bytes-line _ c.if-n-eq0.true
+pub returns-in_default-3 : goal.returns-in_default-3
+returns-in_default-3 c = other_letter c.args.body.now (λ h. omega arith)

@@ -15,7 +15,7 @@ returns-in-At c =
     simp (
       c.carries.ensures,
       c.in-At.is,
-      ← c.read_command-r.ensures,
+      ← c.read_command.ensures,
       c.if-not-both_have.false,
       ← c.both_have.ensures,
       lt-ltb _ _ c.if-text-at.false,
@@ -28,7 +28,7 @@ returns-in-Bad c =
       c.past_operand.ensures,
       c.stand_in.ensures,
       c.in-Bad.is,
-      ← c.read_command-r.ensures,
+      ← c.read_command.ensures,
       c.if-not-both_have.false,
       ← c.both_have.ensures,
       lt-ltb _ _ c.if-text-at.false,
@@ -39,7 +39,7 @@ unfolding stands_at
 returns-in-End c =
     simp (
       c.in-End.is,
-      ← c.read_command-r.ensures,
+      ← c.read_command.ensures,
       c.if-not-both_have.false,
       ← c.both_have.ensures,
       lt-ltb _ _ c.if-text-at.false,
@@ -51,4 +51,4 @@ returns-then-text-at c = rw (le-ltb _ _ c.if-text-at.true)
 
 pub carries-requires : goal.carries-requires
 unfolding stands_at
-carries-requires c = (spells_as _ _ _ _ (sym c.read_command-r.ensures ∙ c.in-At.is)).in-range
+carries-requires c = (spells_as _ _ _ _ (sym c.read_command.ensures ∙ c.in-At.is)).in-range

@@ -3,17 +3,13 @@ use mathlib.Core.Path.{sym, ◌∙◌}
 use native.Mathlib.Omega.{arith}
 use Rattle.host.proofs.AddLaws.{added-length}
 use Rattle.older.proofs.ItemLaws.{good-goes, letter-goes, unfit-goes}
-use Rattle.older.proofs.WriteLaws.{written-length, writing, write_on, write_full, write_letter, write_unfit, write_end}
+use Rattle.older.proofs.WriteLaws.{writing, write_on, write_full, write_letter, write_unfit, write_end}
 use Rattle.older.proofs.writing.write_text.Goals as goal
 
-pub shape_of-line-in_default : goal.shape_of-line-in_default
-shape_of-line-in_default c =
-    omega (arith, added-length c.loop-c.invariant.added, written-length c.write_command.ensures)
-
-pub returns-in_default : goal.returns-in_default
-returns-in_default c =
-    write_full c.loop-c.invariant (sym c.stands_at.ensures ∙ c.in-Carries.is)
-    (rw c.in_default.is at c.write_command.ensures)
+pub returns-in_err-end-in-Carries : goal.returns-in_err-end-in-Carries
+returns-in_err-end-in-Carries c =
+    rw c.from_residual.ensures
+    (write_full c.loop-c.invariant (sym c.stands_at.ensures ∙ c.in-Carries.is) (rw c.in_err-end-in-Carries.was at c.write_command.ensures))
 
 pub loop-c-smaller-in-Carries : goal.loop-c-smaller-in-Carries
 loop-c-smaller-in-Carries c =
@@ -23,7 +19,7 @@ loop-c-smaller-in-Carries c =
 pub loop-c-preserved-in-Carries : goal.loop-c-preserved-in-Carries
 loop-c-preserved-in-Carries c =
     write_on c.loop-c.invariant (sym c.stands_at.ensures ∙ c.in-Carries.is)
-    (rw c.in-Past.is at c.write_command.ensures)
+    (rw c.in_ok-end-in-Carries.was at c.write_command.ensures)
 
 pub overflow_add-at : goal.overflow_add-at
 overflow_add-at c = let h = letter-goes _ _ _ (sym c.stands_at.ensures ∙ c.in-Lacks.is) in omega arith

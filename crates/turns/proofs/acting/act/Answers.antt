@@ -24,7 +24,6 @@ unfolding acted
 returns-in-Home c = simp (
   c.set_motor-in-Home.ensures,
   c.home.ensures,
-  c.flag_of.ensures,
   c.in-Home.is,
 )
 

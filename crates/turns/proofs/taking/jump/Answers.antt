@@ -10,15 +10,15 @@ pub returns-then-n-gt0 : goal.returns-then-n-gt0
 unfolding jumped
 returns-then-n-gt0 c =
     let a = c.args in
-    let t = c.slot_text-t.ensures in
+    let t = c.slot_text-n.ensures in
     rw (text-there a.image.now a.slot (rw (← t) c.if-n-gt0.true), ← t) c.go_into.ensures
 
 pub returns-then-slot_good : goal.returns-then-slot_good
 unfolding jumped
 returns-then-slot_good c =
-    let t = c.slot_text-t.ensures in
+    let t = c.slot_text-n.ensures in
     let h = c.if-n-gt0.false in
-    let none : length c.slot_text-t.result.now ≡ 0 = omega arith in
+    let none : length c.slot_text-n.result.now ≡ 0 = omega arith in
     rw (← c.slot_good.ensures, c.if-slot_good.true, ← t, none) c.go_into-then-slot_good.ensures
 
 pub returns : goal.returns

@@ -1,0 +1,7 @@
+// Why the motor stops a run.
+#[derive(Clone, Copy, PartialEq, Eq)]
+pub enum Stop {
+    FlagNotFound,
+    PositionUnknown,
+    RangeLeft,
+}
