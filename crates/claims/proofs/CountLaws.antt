@@ -14,11 +14,11 @@ use Rattle.lines.specs.Bodies.{line_code_lem}
 use Rattle.courses.specs.Meaning.{unrolled, cost, course_in, commands_in}
 use Rattle.courses.proofs.SteadyLaws.{costs}
 use Rattle.forecast.specs.Count.{barred_act, barred, any_barred, count_text, body_text, count_of}
-use Rattle.claims.specs.Counts.{Uncounted, jump, skip, wait, loop-0, up_0, down_0, Some, first, later, CountRow}
+use Rattle.claims.specs.Counts.{NotCounted, jump, skip, wait, loop-0, up_0, down_0, AnyNotCounted, first, later, CountRow}
 
 -- ---- the letters
 
-barred_so : {d : Command} → Uncounted d → barred d ≡ true
+barred_so : {d : Command} → NotCounted d → barred d ≡ true
 unfolding command_of table find
 barred_so (jump n) = refl
 barred_so (skip n) = refl
@@ -27,7 +27,7 @@ barred_so loop-0 = refl
 barred_so up_0 = refl
 barred_so down_0 = refl
 
-so_act : (a : Act) → barred_act a ≡ true → Uncounted (Plain a)
+so_act : (a : Act) → barred_act a ≡ true → NotCounted (Plain a)
 unfolding command_of table find
 so_act (MoveTo n) e = absurd (false≢true e)
 so_act (MoveUp n) e = rw (eqb-true n 0 e) up_0
@@ -38,7 +38,7 @@ so_act (Set s n) e = absurd (false≢true e)
 so_act (Delay n) e = absurd (false≢true e)
 so_act (WaitInput n) e = wait n
 
-so_barred : (d : Command) → barred d ≡ true → Uncounted d
+so_barred : (d : Command) → barred d ≡ true → NotCounted d
 unfolding command_of table find
 so_barred LoopBegin e = absurd (false≢true e)
 so_barred (LoopEnd n) e = rw (eqb-true n 0 e) loop-0
@@ -46,7 +46,7 @@ so_barred (Skip n) e = skip n
 so_barred (Jump n) e = jump n
 so_barred (Plain a) e = so_act a e
 
-some_so : {ds : List Command} → Some ds → any_barred ds ≡ true
+some_so : {ds : List Command} → AnyNotCounted ds → any_barred ds ≡ true
 unfolding any_barred
 some_so (first u) = rw (barred_so u)
 some_so {ds = d ∷ ds} (later s) = rw (some_so s) (or-true (barred d))
@@ -55,16 +55,16 @@ some_so {ds = d ∷ ds} (later s) = rw (some_so s) (or-true (barred d))
     or-true true = refl
     or-true false = refl
 
-so_some : (ds : List Command) → any_barred ds ≡ true → Some ds
+so_some : (ds : List Command) → any_barred ds ≡ true → AnyNotCounted ds
 unfolding any_barred
 so_some [] e = absurd (false≢true e)
 so_some (d ∷ ds) e = go (barred d) refl e (so_some ds)
   where
-    go : (b : Bool) → barred d ≡ b → (b || any_barred ds) ≡ true → (any_barred ds ≡ true → Some ds) → Some (d ∷ ds)
+    go : (b : Bool) → barred d ≡ b → (b || any_barred ds) ≡ true → (any_barred ds ≡ true → AnyNotCounted ds) → AnyNotCounted (d ∷ ds)
     go true f g rest = first (so_barred d f)
     go false f g rest = later (rest g)
 
-none_so : (ds : List Command) → (Some ds → ⊥) → any_barred ds ≡ false
+none_so : (ds : List Command) → (AnyNotCounted ds → ⊥) → any_barred ds ≡ false
 none_so ds n = go (any_barred ds) refl
   where
     go : (b : Bool) → any_barred ds ≡ b → b ≡ false

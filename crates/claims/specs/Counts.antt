@@ -11,25 +11,25 @@ use Rattle.forecast.specs.declared.Uncounted.TheVariants.{Refused}
 use Rattle.forecast.specs.Count.{body_text, count_of, counted_name}
 
 -- "`e`, `S`, `H`, bare `G` or a `G`, `P` or `D` of 0", by their letters
-pub data Uncounted : Command → Type 0 where
-  jump : (n : ℕ) → Uncounted (command_of (byte "e") n)
-  skip : (n : ℕ) → Uncounted (command_of (byte "S") n)
-  wait : (n : ℕ) → Uncounted (command_of (byte "H") n)
-  loop-0 : Uncounted (command_of (byte "G") 0)
-  up_0 : Uncounted (command_of (byte "P") 0)
-  down_0 : Uncounted (command_of (byte "D") 0)
+pub data NotCounted : Command → Type 0 where
+  jump : (n : ℕ) → NotCounted (command_of (byte "e") n)
+  skip : (n : ℕ) → NotCounted (command_of (byte "S") n)
+  wait : (n : ℕ) → NotCounted (command_of (byte "H") n)
+  loop-0 : NotCounted (command_of (byte "G") 0)
+  up_0 : NotCounted (command_of (byte "P") 0)
+  down_0 : NotCounted (command_of (byte "D") 0)
 
 -- one of a list
-pub data Some : List Command → Type 0 where
-  first : {d : Command} {ds : List Command} → Uncounted d → Some (d ∷ ds)
-  later : {d : Command} {ds : List Command} → Some ds → Some (d ∷ ds)
+pub data AnyNotCounted : List Command → Type 0 where
+  first : {d : Command} {ds : List Command} → NotCounted d → AnyNotCounted (d ∷ ds)
+  later : {d : Command} {ds : List Command} → AnyNotCounted ds → AnyNotCounted (d ∷ ds)
 
 -- "by name, the line check's code, then a letter from that list, then a count over 2^63 − 1"
 pub record CountRow (b : List ℕ) : Type 0 where
   pub refused : (line_code_lem b ≡ 0 → ⊥) → (counted_name (count_of b) ≡ "the line check's code") × (count_of b ≡ Err (Refused (line_fault b)))
-  pub letter : (ds : List Command) → line_code_lem b ≡ 0 → bare_from (body_text b) 0 ≡ these ds → Some ds → counted_name (count_of b) ≡ "a letter from that list"
-  pub too_many : (ds : List Command) → line_code_lem b ≡ 0 → bare_from (body_text b) 0 ≡ these ds → (Some ds → ⊥)
+  pub letter : (ds : List Command) → line_code_lem b ≡ 0 → bare_from (body_text b) 0 ≡ these ds → AnyNotCounted ds → counted_name (count_of b) ≡ "a letter from that list"
+  pub too_many : (ds : List Command) → line_code_lem b ≡ 0 → bare_from (body_text b) 0 ≡ these ds → (AnyNotCounted ds → ⊥)
       → 9223372036854775807 < length (unrolled (course_in (body_text b))) → counted_name (count_of b) ≡ "a count over 2^63 − 1"
-  pub counted : (ds : List Command) → line_code_lem b ≡ 0 → bare_from (body_text b) 0 ≡ these ds → (Some ds → ⊥)
+  pub counted : (ds : List Command) → line_code_lem b ≡ 0 → bare_from (body_text b) 0 ≡ these ds → (AnyNotCounted ds → ⊥)
       → length (unrolled (course_in (body_text b))) ≤ 9223372036854775807
       → (counted_name (count_of b) ≡ "so many commands") × (count_of b ≡ Ok (length (unrolled (course_in (body_text b)))))

@@ -34,7 +34,7 @@ Once {A} Is = (r s : A) (x y : List ℕ) → Is r x → Is s y → (r ≡ s) × 
 pub record OneAnswer : Type 0 where
   -- `parts::put_at`, `parts::wipe_at`
   pub put : (buffer : List ℕ) (at : ℕ) (bytes : List ℕ) → Once {A = Bool} (PutIs buffer at bytes)
-  -- `digits::write_number`, `digits::write_byte`, `commands::write_command`
+  -- `digits::write_number`, `digits::write_bytes`, `digits::write_byte`, `commands::write_command`
   pub written : (buffer : List ℕ) (at : ℕ) (text : List ℕ) → Once {A = Option ℕ} (WrittenIs buffer at text)
   -- `image::store`, `image::clear`
   pub stored : (image : List ℕ) (slot : ℕ) (text : List ℕ) → Once {A = Result ⊤ NotStored} (StoredIs image slot text)
