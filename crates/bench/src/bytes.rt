@@ -34,6 +34,14 @@ impl<const N: usize> Bytes<N> {
         self.length = 0;
     }
 
+    // Adds a byte, where there is room.
+    pub(crate) fn push(&mut self, byte: u8) {
+        if self.length < N {
+            self.bytes[self.length] = byte;
+            self.length += 1;
+        }
+    }
+
     // Adds bytes, as many as there is room for.
     pub(crate) fn add(&mut self, more: &[u8]) {
         let n = more.len().min(N - self.length);

@@ -39,7 +39,7 @@ pub(crate) fn give(field: &[u8], form: Form, number: u8, out: &mut Bytes<GIVEN_M
 fn decode(digits: &[u8], out: &mut Bytes<GIVEN_MOST>) {
     for pair in digits.chunks_exact(2) {
         if let Some(byte) = fields::byte(pair) {
-            out.add(&[byte]);
+            out.push(byte);
         }
     }
 }

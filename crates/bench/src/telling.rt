@@ -74,7 +74,7 @@ fn add_mark(out: &mut Bytes<ANSWER_BYTES>, mark: u8, n: u64, bytes: &[u8]) {
         b'^' => add_number(out, n, 16, 16),
         b'*' => add_bytes(out, bytes),
         b'$' => out.add(bytes),
-        _ => out.add(&[mark]),
+        _ => out.push(mark),
     }
 }
 
@@ -121,10 +121,11 @@ fn digit(d: u64) -> u8
 // Adds bytes in hex; no bytes is `-`.
 fn add_bytes(out: &mut Bytes<ANSWER_BYTES>, bytes: &[u8]) {
     if bytes.is_empty() {
-        out.add(b"-");
+        out.push(b'-');
     }
     for b in bytes {
-        add_number(out, u64::from(*b), 16, 2);
+        out.push(digit(u64::from(*b / 16)));
+        out.push(digit(u64::from(*b % 16)));
     }
 }
 

@@ -39,10 +39,10 @@ use Rattle.claims.proofs.HeldLaws.{held-code, sets-number}
 -- ---- the receiver and the number
 
 -- a start that is not refused has a number of 1 to 16
-started-number : (number : ℕ) (image body text : List ℕ) → (start_of number image body text).answer ≡ StartAnswer.Started → is_unit number ≡ true
+started-number : (number : ℕ) (image body text : List ℕ) → (start_of number image body text).answer ≡ StartAnswer.start_ok → is_unit number ≡ true
 unfolding start_of
 started-number number image body text =
-    cases (λ (s : Starting). s.answer ≡ StartAnswer.Started → is_unit number ≡ true) (is_unit number) (λ a e. a) (λ a e. no (cc))
+    cases (λ (s : Starting). s.answer ≡ StartAnswer.start_ok → is_unit number ≡ true) (is_unit number) (λ a e. a) (λ a e. no (cc))
 
 module _ (frames : FrameClaims) where
   -- what is kept of a unit beside its core and text

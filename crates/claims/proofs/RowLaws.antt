@@ -76,9 +76,9 @@ module _ (name : String) (a : StartAnswer) (body text : List ℕ) where
 pub start-row : (number : ℕ) (image body text : List ℕ) → StartRow number image body text
 unfolding start_of fresh_unit
 start-row number image body text = record {
-  unit-number = λ n. rw (from_no_unit number n) (refused-start _ StartAnswer.UnitNumber body text refl);
-  image-length = λ n l. rw (from-unit number n, ne_eqb (length image) 4160 l) (refused-start _ StartAnswer.ImageLength body text refl);
-  image-bad = λ n l g. rw (from-unit number n, eq-eqb (length image) 4160 l, not_every most_bytes image l g) (refused-start _ StartAnswer.ImageBad body text refl);
+  unit-number = λ n. rw (from_no_unit number n) (refused-start _ StartAnswer.start_unit_number body text refl);
+  image-length = λ n l. rw (from-unit number n, ne_eqb (length image) 4160 l) (refused-start _ StartAnswer.start_image_length body text refl);
+  image-bad = λ n l g. rw (from-unit number n, eq-eqb (length image) 4160 l, not_every most_bytes image l g) (refused-start _ StartAnswer.start_image_bad body text refl);
   started = λ n l g. rw (from-unit number n, eq-eqb (length image) 4160 l, so_every most_bytes image l g) (refl, refl);
   good-starts = λ n l g. rw (from-unit number n, eq-eqb (length image) 4160 l, so_every most_bytes image l (slots-before image g));
 }
@@ -93,9 +93,9 @@ unfolding turn_of
 turn-row u sample ms steps image =
     let last : ℕ = u.core.motor.last.number in
     record {
-      image-length = λ l. rw (ne_eqb (length image) 4160 l) (refused-turn _ TurnAnswer.ImageLength u refl);
-      sample-high = λ l s. rw (eq-eqb (length image) 4160 l, lt-ltb 15 sample s) (refused-turn _ TurnAnswer.Sample u refl);
-      steps-many = λ l s m. rw (eq-eqb (length image) 4160 l, le-ltb 15 sample s, lt-ltb last steps m) (refused-turn _ TurnAnswer.Steps u refl);
+      image-length = λ l. rw (ne_eqb (length image) 4160 l) (refused-turn _ TurnAnswer.turn_image_length u refl);
+      sample-high = λ l s. rw (eq-eqb (length image) 4160 l, lt-ltb 15 sample s) (refused-turn _ TurnAnswer.turn_sample u refl);
+      steps-many = λ l s m. rw (eq-eqb (length image) 4160 l, le-ltb 15 sample s, lt-ltb last steps m) (refused-turn _ TurnAnswer.turn_steps u refl);
       taken = λ l s m. rw (eq-eqb (length image) 4160 l, le-ltb 15 sample s, le-ltb last steps m);
     }
 
@@ -175,8 +175,8 @@ module _ (u : Drive) (bytes image buffer : List ℕ) where
   pub feed_row : FeedRow u bytes image buffer
   unfolding feed_of
   feed_row = record {
-    buffer-short = λ l. rw (lt-ltb (length buffer) 262 l) (refused-feed _ FeedAnswer.BufferShort u image buffer refl);
-    image-length = λ l w. rw (le-ltb (length buffer) 262 l, ne_eqb (length image) 4160 w) (refused-feed _ FeedAnswer.ImageLength u image buffer refl);
+    buffer-short = λ l. rw (lt-ltb (length buffer) 262 l) (refused-feed _ FeedAnswer.feed_buffer_short u image buffer refl);
+    image-length = λ l w. rw (le-ltb (length buffer) 262 l, ne_eqb (length image) 4160 w) (refused-feed _ FeedAnswer.feed_image_length u image buffer refl);
     taken = λ l w. rw (le-ltb (length buffer) 262 l, eq-eqb (length image) 4160 w);
     group-silent = group-silent;
     frame_refused = λ l w. frame_refused l w (order_row (body_by u bytes) u.core);

@@ -108,7 +108,7 @@ on-core : (good : Bool) (n : ℕ) → Fresh (begun_on good n)
 on-core true n = cases Fresh (ltb 0 n) (λ q. started-core n) (λ q. fresh-core)
 on-core false n = held-core
 
-pub start-defaults : (number : ℕ) (image body text : List ℕ) → (start_of number image body text).answer ≡ StartAnswer.Started → Defaults (start_of number image body text).unit
+pub start-defaults : (number : ℕ) (image body text : List ℕ) → (start_of number image body text).answer ≡ StartAnswer.start_ok → Defaults (start_of number image body text).unit
 unfolding fresh_unit
 start-defaults number image body text e =
     subst Defaults (sym (started-unit number image body text e)) (on-core (slot_good image 0) (length (slot_text image 0)) (fresh_unit number image body))
@@ -118,14 +118,14 @@ unfolding started fresh_core begun
 begun_with_lem [] u l = record { text = refl; runs = refl; code_0 = refl }
 begun_with_lem (x ∷ xs) u l = rw (lt-ltb 0 (suc (length xs)) (omega arith)) (record { text = text_kept (x ∷ xs) l; runs = sym (lt-ltb 0 (suc (length xs)) (omega arith)); code_0 = refl })
 
-pub starts-good : (number : ℕ) (image body text : List ℕ) → (start_of number image body text).answer ≡ StartAnswer.Started → slot_good image 0 ≡ true
+pub starts-good : (number : ℕ) (image body text : List ℕ) → (start_of number image body text).answer ≡ StartAnswer.start_ok → slot_good image 0 ≡ true
     → StartsWith (slot_text image 0) (start_of number image body text).unit
 unfolding fresh_unit
 starts-good number image body text e g =
     subst (StartsWith (slot_text image 0)) (sym (started-unit number image body text e))
     (rw g (begun_with_lem (slot_text image 0) (fresh_unit number image body) (text-fits image 0)))
 
-pub starts-held : (number : ℕ) (image body text : List ℕ) → (start_of number image body text).answer ≡ StartAnswer.Started → slot_good image 0 ≡ false
+pub starts-held : (number : ℕ) (image body text : List ℕ) → (start_of number image body text).answer ≡ StartAnswer.start_ok → slot_good image 0 ≡ false
     → HeldAtStart (start_of number image body text).unit
 unfolding fresh_unit ended fresh_core begun
 starts-held number image body text e g =

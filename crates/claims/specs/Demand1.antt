@@ -14,7 +14,7 @@ use Rattle.frames.specs.declared.Framing.{Framing}
 use Rattle.answers.specs.Packet.{status_of}
 use Rattle.ramp.specs.declared.Figures.{Figures}
 use Rattle.ramp.specs.declared.Refused.{Refused}
-use Rattle.ramp.specs.Ramp.{figures_of, told_of, verdict_name}
+use Rattle.ramp.specs.Ramp.{figures_of, figures_told, verdict_name}
 use Rattle.ramp.specs.Claims.{AllZero}
 use Rattle.host.specs.Claims.{HostClaims}
 use Rattle.turns.specs.declared.Core.{Core}
@@ -59,7 +59,7 @@ abbrev pub FrameRefused : Drive → List ℕ → List ℕ → List ℕ → List 
 FrameRefused u bytes image buffer answer =
     feed_of u bytes image buffer
     ≡ record {
-      answer = FeedAnswer.Taken;
+      answer = FeedAnswer.feed_ok;
       unit = drive u.number (received_by u bytes).receiver u.text u.core u.last;
       consumed = (received_by u bytes).consumed;
       answered = length answer;
@@ -135,7 +135,7 @@ pub record TurnRow (u : Drive) (sample ms steps : ℕ) (image : List ℕ) : Type
 -- "named refusal, all figures 0"
 pub record RampRefused (name : String) (r : Result Figures Refused) : Type 0 where
   pub named : verdict_name r ≡ name
-  pub zeros : AllZero (told_of r)
+  pub zeros : AllZero (figures_told r)
 
 -- "ramp: V, then L, then N outside the ranges of this paper"; "endless, where N is not looked at": None
 pub record RampRow (v l : ℕ) (steps : Option ℕ) : Type 0 where

@@ -15,12 +15,12 @@ use Rattle.claims.specs.Speed.{SpeedClaims}
 use Rattle.claims.specs.Turns.{Defaults, HeldAtStart, StartsWith, Levels, SameRun, Idles, a_turn, here, EachCommand, EachWait, Answers}
 
 pub record EffectClaims : Type 0 where
-  pub defaults : (number : ℕ) (image body text : List ℕ) → (start_of number image body text).answer ≡ StartAnswer.Started
+  pub defaults : (number : ℕ) (image body text : List ℕ) → (start_of number image body text).answer ≡ StartAnswer.start_ok
       → Defaults (start_of number image body text).unit
   -- program 0 runs; 02, E9: but where it counts as bad: "idle, the current text empty, holding 1"
-  pub starts-good : (number : ℕ) (image body text : List ℕ) → (start_of number image body text).answer ≡ StartAnswer.Started → slot_good image 0 ≡ true
+  pub starts-good : (number : ℕ) (image body text : List ℕ) → (start_of number image body text).answer ≡ StartAnswer.start_ok → slot_good image 0 ≡ true
       → StartsWith (slot_text image 0) (start_of number image body text).unit
-  pub starts-held : (number : ℕ) (image body text : List ℕ) → (start_of number image body text).answer ≡ StartAnswer.Started → slot_good image 0 ≡ false
+  pub starts-held : (number : ℕ) (image body text : List ℕ) → (start_of number image body text).answer ≡ StartAnswer.start_ok → slot_good image 0 ≡ false
       → HeldAtStart (start_of number image body text).unit
   pub bodies : (c : Core) (text image : List ℕ) → EachBody c text image
   -- "They are obeyed while running": no feed call moves a run

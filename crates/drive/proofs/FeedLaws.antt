@@ -97,16 +97,16 @@ module _ (u : Drive) (bytes image buffer : List ℕ) where
   pub fed-refused : (why : FeedRefused) → Err why ≡ feed_answer image buffer → feed_refused (Err why) u image buffer ≡ feed_of u bytes image buffer
   fed-refused why e = rw (← e) at answered_by_lem
 
-  pub fed-taken : FeedAnswer.Taken ≡ feed_answer image buffer → taken ≡ feed_of u bytes image buffer
+  pub fed-taken : FeedAnswer.feed_ok ≡ feed_answer image buffer → taken ≡ feed_of u bytes image buffer
   fed-taken e = rw (← e) at answered_by_lem
 
 -- a call that is taken has room for the longest packet
-pub room-there : (image buffer : List ℕ) → FeedAnswer.Taken ≡ feed_answer image buffer → packet_bytes ≤ length buffer
+pub room-there : (image buffer : List ℕ) → FeedAnswer.feed_ok ≡ feed_answer image buffer → packet_bytes ≤ length buffer
 room-there image buffer e = go (ltb (length buffer) packet_bytes) refl
   where
     go : (b : Bool) → ltb (length buffer) packet_bytes ≡ b → packet_bytes ≤ length buffer
     go false t = ltb-false (length buffer) packet_bytes t
-    go true t = let same : FeedAnswer.Taken ≡ FeedAnswer.BufferShort = rw t at e in let z : ◌≡◌ {A = ℕ} 0 1 = cc in omega arith
+    go true t = let same : FeedAnswer.feed_ok ≡ FeedAnswer.feed_buffer_short = rw t at e in let z : ◌≡◌ {A = ℕ} 0 1 = cc in omega arith
 
 module _ (u : Record) (h : Heard) (body text image buffer : List ℕ) where
   -- a completed frame from its steps
@@ -140,7 +140,7 @@ module _ (u : Record) (h : Heard) (body text image buffer : List ℕ) where
 
 module _ (u : Record) (body text bytes image buffer : List ℕ) {after : List ℕ} {h : Heard} where
   -- what was heard is what the definition receives
-  pub fed-heard : FeedAnswer.Taken ≡ feed_answer image buffer → heard_with h after ≡ receive_of (receiver_of u.progress body) u.number bytes
+  pub fed-heard : FeedAnswer.feed_ok ≡ feed_answer image buffer → heard_with h after ≡ receive_of (receiver_of u.progress body) u.number bytes
       → feed_taken (heard_with h after) (body_for u.last (heard_with h after)) (received_obeyed u.last (heard_with h after) u.core) (unit_of u after text)
       image buffer
       ≡ feed_of (unit_of u body text) bytes image buffer
@@ -148,7 +148,7 @@ module _ (u : Record) (body text bytes image buffer : List ℕ) {after : List �
       ap (λ (r : Received). feed_taken r (body_for u.last r) (received_obeyed u.last r u.core) (unit_of u body text) image buffer) w
       ∙ fed-taken (unit_of u body text) bytes image buffer a
 
-  pub fed-frame : FeedAnswer.Taken ≡ feed_answer image buffer → heard_with h after ≡ receive_of (receiver_of u.progress body) u.number bytes
+  pub fed-frame : FeedAnswer.feed_ok ≡ feed_answer image buffer → heard_with h after ≡ receive_of (receiver_of u.progress body) u.number bytes
       → (h.frame ≡ Frame.Nothing → ⊥)
       → feed_taken (heard_with h after) (body_for u.last (heard_with h after)) (body_obeyed (body_for u.last (heard_with h after)) u.core)
       (unit_of u after text) image buffer

@@ -62,9 +62,9 @@ unfoldable pub start_of : ℕ → List ℕ → List ℕ → List ℕ → Startin
 start_of number image body text =
     cond (is_unit number)
     (cond (right_length image)
-    (cond (slots_older image slots) (starting StartAnswer.Started (fresh_unit number image body)) (starting StartAnswer.ImageBad (no_unit body text)))
-    (starting StartAnswer.ImageLength (no_unit body text)))
-    (starting StartAnswer.UnitNumber (no_unit body text))
+    (cond (slots_older image slots) (starting StartAnswer.start_ok (fresh_unit number image body)) (starting StartAnswer.start_image_bad (no_unit body text)))
+    (starting StartAnswer.start_image_length (no_unit body text)))
+    (starting StartAnswer.start_unit_number (no_unit body text))
 
 -- ---- feed
 
@@ -127,7 +127,7 @@ answer_for Frame.Group g o text = []
 abbrev pub feed_taken : Received → List ℕ → Obeyed → Drive → List ℕ → List ℕ → Feeding
 feed_taken r body o u image buffer =
     record {
-      answer = FeedAnswer.Taken;
+      answer = FeedAnswer.feed_ok;
       unit = drive u.number r.receiver (text_then body o u.text) o.core (last_after r.frame r.framing o.code u.last);
       consumed = r.consumed;
       answered = length (answer_for r.frame r.framing o (text_then body o u.text));
@@ -138,9 +138,9 @@ feed_taken r body o u image buffer =
 -- "answer buffer under 262 bytes | named refusal, 0 consumed, nothing changed"; "image not 4,160 bytes | the same; tested after the buffer"
 unfoldable pub feed_of : Drive → List ℕ → List ℕ → List ℕ → Feeding
 feed_of u bytes image buffer =
-    cond (ltb (length buffer) packet_bytes) (feed_refused FeedAnswer.BufferShort u image buffer)
+    cond (ltb (length buffer) packet_bytes) (feed_refused FeedAnswer.feed_buffer_short u image buffer)
     (cond (right_length image) (feed_taken (received_by u bytes) (body_by u bytes) (obeyed_by u bytes) u image buffer)
-    (feed_refused FeedAnswer.ImageLength u image buffer))
+    (feed_refused FeedAnswer.feed_image_length u image buffer))
 
 -- ---- turn
 
@@ -164,7 +164,7 @@ turn_refused a u = record { answer = a; unit = u; action = no_action }
 abbrev pub turn_taken : Stepped → List ℕ → Drive → Turning
 turn_taken s image u =
     record {
-      answer = TurnAnswer.Taken;
+      answer = TurnAnswer.turn_ok;
       unit = drive u.number u.receiver (text_after s.enter u.text image) s.core u.last;
       action = action_answered s.core.settings.turned s.core.motor.last;
     }
@@ -173,7 +173,7 @@ turn_taken s image u =
 unfoldable pub turn_of : Drive → ℕ → ℕ → ℕ → List ℕ → Turning
 turn_of u sample ms steps image =
     cond (right_length image)
-    (cond (ltb most_sample sample) (turn_refused TurnAnswer.Sample u)
-    (cond (ltb u.core.motor.last.number steps) (turn_refused TurnAnswer.Steps u)
+    (cond (ltb most_sample sample) (turn_refused TurnAnswer.turn_sample u)
+    (cond (ltb u.core.motor.last.number steps) (turn_refused TurnAnswer.turn_steps u)
     (turn_taken (turn_core sample ms steps u.text image u.core) image u)))
-    (turn_refused TurnAnswer.ImageLength u)
+    (turn_refused TurnAnswer.turn_image_length u)

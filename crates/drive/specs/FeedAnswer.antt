@@ -6,12 +6,12 @@ use Rattle.drive.specs.declared.FeedRefused.{FeedRefused}
 abbrev pub FeedAnswer : Type 0
 FeedAnswer = Result ⊤ FeedRefused
 
-abbrev pub Taken : FeedAnswer
-Taken = Ok tt
+abbrev pub feed_ok : FeedAnswer
+feed_ok = Ok tt
 
 -- the refusals in the order of their tests
-abbrev pub BufferShort : FeedAnswer
-BufferShort = Err FeedRefused.BufferShort
+abbrev pub feed_buffer_short : FeedAnswer
+feed_buffer_short = Err FeedRefused.BufferShort
 
-abbrev pub ImageLength : FeedAnswer
-ImageLength = Err FeedRefused.ImageLength
+abbrev pub feed_image_length : FeedAnswer
+feed_image_length = Err FeedRefused.ImageLength

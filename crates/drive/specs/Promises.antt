@@ -15,14 +15,14 @@ use Rattle.drive.specs.Calls.{Starting, starting, no_unit, Feeding, feed_refused
 
 -- a refused start hands out no unit
 abbrev pub started_with : Result Record StartRefused → List ℕ → List ℕ → Starting
-started_with (Ok u) body text = starting StartAnswer.Started (unit_of u body text)
+started_with (Ok u) body text = starting StartAnswer.start_ok (unit_of u body text)
 started_with (Err why) body text = starting (Err why) (no_unit body text)
 
 -- of a call that is taken
 abbrev pub fed_taken : Fed → List ℕ → List ℕ → List ℕ → List ℕ → Feeding
 fed_taken f body text image buffer =
     record {
-      answer = FeedAnswer.Taken;
+      answer = FeedAnswer.feed_ok;
       unit = unit_of f.unit body text;
       consumed = f.consumed;
       answered = f.answered;
@@ -37,7 +37,7 @@ fed_with u (Err why) body text image buffer = feed_refused (Err why) (unit_of u 
 
 -- a refused turn leaves the record that was handed over, and answers no action
 abbrev pub turned_with : Record → Result Turned TurnRefused → List ℕ → List ℕ → Turning
-turned_with u (Ok t) body text = record { answer = TurnAnswer.Taken; unit = unit_of t.unit body text; action = t.action }
+turned_with u (Ok t) body text = record { answer = TurnAnswer.turn_ok; unit = unit_of t.unit body text; action = t.action }
 turned_with u (Err why) body text = turn_refused (Err why) (unit_of u body text)
 
 -- a turn is not lent the body, and leaves it whatever it is

@@ -6,15 +6,15 @@ use Rattle.drive.specs.declared.StartRefused.{StartRefused}
 abbrev pub StartAnswer : Type 0
 StartAnswer = Result ⊤ StartRefused
 
-abbrev pub Started : StartAnswer
-Started = Ok tt
+abbrev pub start_ok : StartAnswer
+start_ok = Ok tt
 
 -- the refusals in the order of their tests
-abbrev pub UnitNumber : StartAnswer
-UnitNumber = Err StartRefused.UnitNumber
+abbrev pub start_unit_number : StartAnswer
+start_unit_number = Err StartRefused.UnitNumber
 
-abbrev pub ImageLength : StartAnswer
-ImageLength = Err StartRefused.ImageLength
+abbrev pub start_image_length : StartAnswer
+start_image_length = Err StartRefused.ImageLength
 
-abbrev pub ImageBad : StartAnswer
-ImageBad = Err StartRefused.ImageBad
+abbrev pub start_image_bad : StartAnswer
+start_image_bad = Err StartRefused.ImageBad

@@ -21,7 +21,7 @@ use Rattle.drive.specs.Calls.{packet_as, most_sample}
 -- how a call is answered
 abbrev pub feed_answer : List ℕ → List ℕ → FeedAnswer
 feed_answer image buffer =
-    cond (ltb (length buffer) packet_bytes) FeedAnswer.BufferShort (cond (right_length image) FeedAnswer.Taken FeedAnswer.ImageLength)
+    cond (ltb (length buffer) packet_bytes) FeedAnswer.feed_buffer_short (cond (right_length image) FeedAnswer.feed_ok FeedAnswer.feed_image_length)
 
 -- what a body has to write, written: the text and the image
 pub record WriteDone (w : Write) (body text image text' image' : List ℕ) : Type 0 where

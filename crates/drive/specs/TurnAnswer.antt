@@ -6,15 +6,15 @@ use Rattle.drive.specs.declared.TurnRefused.{TurnRefused}
 abbrev pub TurnAnswer : Type 0
 TurnAnswer = Result ⊤ TurnRefused
 
-abbrev pub Taken : TurnAnswer
-Taken = Ok tt
+abbrev pub turn_ok : TurnAnswer
+turn_ok = Ok tt
 
 -- the refusals in the order of their tests
-abbrev pub ImageLength : TurnAnswer
-ImageLength = Err TurnRefused.ImageLength
+abbrev pub turn_image_length : TurnAnswer
+turn_image_length = Err TurnRefused.ImageLength
 
-abbrev pub Sample : TurnAnswer
-Sample = Err TurnRefused.Sample
+abbrev pub turn_sample : TurnAnswer
+turn_sample = Err TurnRefused.Sample
 
-abbrev pub Steps : TurnAnswer
-Steps = Err TurnRefused.Steps
+abbrev pub turn_steps : TurnAnswer
+turn_steps = Err TurnRefused.Steps

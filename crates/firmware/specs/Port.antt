@@ -5,7 +5,7 @@ use Rattle.lines.specs.Texts.{text_good}
 use Rattle.image.specs.Calls.{checked_of, checked_number}
 use Rattle.ramp.specs.declared.Figures.{Figures}
 use Rattle.ramp.specs.declared.Refused.{Refused}
-use Rattle.ramp.specs.Ramp.{figures_of, told_of, verdict_number}
+use Rattle.ramp.specs.Ramp.{figures_of, figures_told, verdict_number}
 
 -- a stored text: 0 good, 1 bad
 abbrev pub good_number : Bool → ℕ
@@ -32,7 +32,7 @@ ramp_of v l endless n = figures_of v l (steps_of endless n)
 
 -- the figures that are told
 abbrev pub figures : ℕ → ℕ → ℕ → ℕ → Figures
-figures v l endless n = told_of (ramp_of v l endless n)
+figures v l endless n = figures_told (ramp_of v l endless n)
 
 -- 0 taken; 1, 2, 3 where V, L, N is refused
 unfoldable pub ramp_number : ℕ → ℕ → ℕ → ℕ → ℕ

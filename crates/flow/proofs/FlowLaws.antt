@@ -18,54 +18,48 @@ use Rattle.commands.specs.Reading.{read_at}
 use Rattle.lines.specs.Texts.{most_open}
 use Rattle.lines.specs.Loops.{Enclosed, start, next, open_after, enclosing, Checked, Skippable}
 use Rattle.lines.proofs.LoopLaws.{lawful, at_most-four, backs, enclosed_by}
-use Rattle.flow.specs.declared.Loop.{Loop}
 use Rattle.flow.specs.declared.Flow.{Flow}
-use Rattle.flow.specs.Flow.{open_loop, no_loop, run_more, begun, gone, opened, again, bumped, backed, left, closed, loop_begun, loop_ended, opens}
+use Rattle.flow.specs.Flow.{begun, gone, opened, again, bumped, backed, left, closed, loop_begun, loop_ended, opens}
 
 -- what holds of a flow before each command
 pub record FlowOk (t : List ℕ) (f : Flow) : Type 0 where
   pub checked : Checked t
-  pub place : Enclosed t f.at (opens f.depth f.loops)
-  pub loops4 : length f.loops ≡ most_open
+  pub place : Enclosed t f.at (opens f.depth f.starts)
+  pub starts4 : length f.starts ≡ most_open
+  pub dones4 : length f.dones ≡ most_open
   pub length : f.length ≡ length t
 
 -- ---- the open loops
 
-pub opens-length : (d : ℕ) (loops : List Loop) → length (opens d loops) ≡ d
-opens-length zero loops = refl
-opens-length (suc d) loops = ap suc (opens-length d loops)
+pub opens-length : (d : ℕ) (starts : List ℕ) → length (opens d starts) ≡ d
+opens-length zero starts = refl
+opens-length (suc d) starts = ap suc (opens-length d starts)
 
 -- a store at or past the depth changes no open loop
-opens-set : (d i : ℕ) (x : Loop) (s : List Loop) → d ≤ i → opens d (set s i x) ≡ opens d s
+opens-set : (d i x : ℕ) (s : List ℕ) → d ≤ i → opens d (set s i x) ≡ opens d s
 opens-set zero i x s h = refl
-opens-set (suc d) i x s h = rw (get_or-set_other s i d x no_loop (omega arith), opens-set d i x s (omega arith))
+opens-set (suc d) i x s h = rw (get_or-set_other s i d x 0 (omega arith), opens-set d i x s (omega arith))
 
 -- "at most four open"
 pub depth_most : {t : List ℕ} {f : Flow} → FlowOk t f → f.depth ≤ most_open
-depth_most {t} {f} h = omega (arith, at_most-four h.checked h.place, opens-length f.depth f.loops)
+depth_most {t} {f} h = omega (arith, at_most-four h.checked h.place, opens-length f.depth f.starts)
 
 -- ---- the count of a loop
 
-bumped-length : (m d : ℕ) (s : List Loop) → length (bumped m d s) ≡ length s
-bumped-length m d s = cases (λ (l : List Loop). length l ≡ length s) (eqb m 0) (λ q. refl) (λ q. rw length-set)
-
--- a body that has run once more begins where it began
-bumped-opens : (m d : ℕ) (s : List Loop) → d < length s → opens (suc d) (bumped m d s) ≡ opens (suc d) s
-bumped-opens m d s h =
-    cases (λ (l : List Loop). opens (suc d) l ≡ opens (suc d) s) (eqb m 0) (λ q. refl)
-    (λ q. rw (get_or-set_same s d (run_more (get_or s d no_loop)) no_loop h, opens-set d d (run_more (get_or s d no_loop)) s (omega arith)))
+bumped-length : (m d : ℕ) (dn : List ℕ) → length (bumped m d dn) ≡ length dn
+bumped-length m d dn = cases (λ (l : List ℕ). length l ≡ length dn) (eqb m 0) (λ q. refl) (λ q. rw length-set)
 
 -- ---- a text begun, and a place gone on to
 
 pub begun_ok : {t : List ℕ} → Checked t → FlowOk t (begun (length t))
 unfolding begun
-begun_ok h = record { checked = h; place = start; loops4 = refl; length = refl }
+begun_ok h = record { checked = h; place = start; starts4 = refl; dones4 = refl; length = refl }
 
 -- gone on behind a command that opens and closes nothing
 pub gone_ok : {t : List ℕ} {f : Flow} {c : Command} {n : ℕ} → FlowOk t f → read_at t f.at ≡ At c n
-    → open_after c n (opens f.depth f.loops) ≡ opens f.depth f.loops → FlowOk t (gone n f)
+    → open_after c n (opens f.depth f.starts) ≡ opens f.depth f.starts → FlowOk t (gone n f)
 gone_ok {t} {f} {c} {n} h e q =
-    record { checked = h.checked; place = rw q at (next c n h.place e); loops4 = h.loops4; length = h.length }
+    record { checked = h.checked; place = rw q at (next c n h.place e); starts4 = h.starts4; dones4 = h.dones4; length = h.length }
 
 -- "`S` is neither last nor directly before `g` or `G`": what is skipped opens and closes nothing
 pub skipped_ok : {t : List ℕ} {f : Flow} {k n l : ℕ} {c : Command} → FlowOk t f → read_at t f.at ≡ At (Skip k) n → read_at t n ≡ At c l → FlowOk t (gone l f)
@@ -81,7 +75,7 @@ skipped_ok {t} {f} {k} {n} {l} {c} h e q = go c q (rw q at (rw e at (lawful h.ch
 -- ---- what stands at the place
 
 -- "the open loops are exactly those that enclose it in the text"
-pub exactly : {t : List ℕ} {f : Flow} → FlowOk t f → opens f.depth f.loops ≡ enclosing t f.at
+pub exactly : {t : List ℕ} {f : Flow} → FlowOk t f → opens f.depth f.starts ≡ enclosing t f.at
 exactly h = enclosed_by h.place
 
 pub no_fault_lem : {t : List ℕ} {f : Flow} {k p : ℕ} → FlowOk t f → read_at t f.at ≡ Bad k p → ⊥
@@ -92,8 +86,8 @@ no_fault_lem {t} {f} h e = rw e at (lawful h.checked h.place)
 -- there is room for a loop where one begins
 begin_room : {t : List ℕ} {f : Flow} {n : ℕ} → FlowOk t f → read_at t f.at ≡ At LoopBegin n → f.depth < most_open
 begin_room {t} {f} {n} h e =
-    let l : length (opens f.depth f.loops) < most_open = rw e at (lawful h.checked h.place) in
-    omega (arith, opens-length f.depth f.loops)
+    let l : length (opens f.depth f.starts) < most_open = rw e at (lawful h.checked h.place) in
+    omega (arith, opens-length f.depth f.starts)
 
 pub begin_goes : {t : List ℕ} {f : Flow} {n : ℕ} → FlowOk t f → read_at t f.at ≡ At LoopBegin n → loop_begun n f ≡ Some (opened n f)
 unfolding loop_begun
@@ -104,8 +98,9 @@ opened_ok {t} {f} {n} h e =
     let d = begin_room h e in
     record {
       checked = h.checked;
-      place = rw (add-one, get_or-set_same f.loops f.depth (open_loop n 0) no_loop (omega (arith, h.loops4)), opens-set f.depth f.depth (open_loop n 0) f.loops (omega arith)) (next LoopBegin n h.place e);
-      loops4 = rw length-set h.loops4;
+      place = rw (add-one, get_or-set_same f.starts f.depth n 0 (omega (arith, h.starts4)), opens-set f.depth f.depth n f.starts (omega arith)) (next LoopBegin n h.place e);
+      starts4 = rw length-set h.starts4;
+      dones4 = rw length-set h.dones4;
       length = h.length;
     }
 
@@ -113,23 +108,24 @@ opened_ok {t} {f} {n} h e =
 
 backed_ok : {t : List ℕ} {f : Flow} {n m d : ℕ} → FlowOk t f → read_at t f.at ≡ At (LoopEnd m) n → f.depth ≡ suc d → FlowOk t (backed d m f)
 backed_ok {t} {f} {n} {m} {d} h e z =
-    let p : Enclosed t f.at (opens (suc d) f.loops) = rw z at h.place in
+    let p : Enclosed t f.at (opens (suc d) f.starts) = rw z at h.place in
     record {
       checked = h.checked;
-      place = rw (z, bumped-opens m d f.loops (omega (arith, h.loops4, depth_most h))) (backs p).0;
-      loops4 = rw bumped-length h.loops4;
+      place = rw z (backs p).0;
+      starts4 = h.starts4;
+      dones4 = rw bumped-length h.dones4;
       length = h.length;
     }
 
 left_ok : {t : List ℕ} {f : Flow} {n m d : ℕ} → FlowOk t f → read_at t f.at ≡ At (LoopEnd m) n → f.depth ≡ suc d → FlowOk t (left d n f)
 left_ok {t} {f} {n} {m} {d} h e z =
-    record { checked = h.checked; place = next (LoopEnd m) n (rw z at h.place) e; loops4 = h.loops4; length = h.length }
+    record { checked = h.checked; place = next (LoopEnd m) n (rw z at h.place) e; starts4 = h.starts4; dones4 = h.dones4; length = h.length }
 
 -- a loop is open where one ends
 end_open : {t : List ℕ} {f : Flow} {n m : ℕ} → FlowOk t f → read_at t f.at ≡ At (LoopEnd m) n → f.depth ≡ suc (f.depth - 1)
 end_open {t} {f} {n} {m} h e =
-    let l : 0 < length (opens f.depth f.loops) = rw e at (lawful h.checked h.place) in
-    omega (arith, opens-length f.depth f.loops)
+    let l : 0 < length (opens f.depth f.starts) = rw e at (lawful h.checked h.place) in
+    omega (arith, opens-length f.depth f.starts)
 
 pub end_goes : {t : List ℕ} {f : Flow} {n m : ℕ} → FlowOk t f → read_at t f.at ≡ At (LoopEnd m) n → loop_ended m n f ≡ Some (closed (f.depth - 1) m n f)
 unfolding loop_ended
@@ -138,4 +134,4 @@ end_goes {t} {f} {n} {m} h e = let z = end_open h e in rw (lt-ltb 0 f.depth (ome
 pub closed_ok : {t : List ℕ} {f : Flow} {n m : ℕ} → FlowOk t f → read_at t f.at ≡ At (LoopEnd m) n → FlowOk t (closed (f.depth - 1) m n f)
 closed_ok {t} {f} {n} {m} h e =
     let z = end_open h e in
-    cases (λ (g : Flow). FlowOk t g) (again m (get_or f.loops (f.depth - 1) no_loop).done) (λ a. backed_ok h e z) (λ a. left_ok h e z)
+    cases (λ (g : Flow). FlowOk t g) (again m (get_or f.dones (f.depth - 1) 0)) (λ a. backed_ok h e z) (λ a. left_ok h e z)

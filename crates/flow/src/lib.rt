@@ -2,24 +2,18 @@
 #![tactic(auto)]
 
 ghost use Rattle.std.specs.Prelude.{◌≡◌, ◌<◌, get_or, set};
-ghost use Rattle.flow.specs.Flow.{no_loop, begun, gone, closed, loop_begun, loop_ended};
+ghost use Rattle.flow.specs.Flow.{begun, gone, closed, loop_begun, loop_ended};
 
 // "At most four open".
 const MOST_OPEN: usize = 4;
 
-// An open loop: where its body begins, and how often that has run.
-#[derive(Clone, Copy)]
-pub struct Loop {
-    pub start: usize,
-    pub done: u32,
-}
-
-// Where a run stands in its text: the text's length, the next place, and the open loops, the outermost first.
+// Where a run stands in its text: the text's length, the next place, and for each open loop its start and how often its body has run.
 #[derive(Clone, Copy)]
 pub struct Flow {
     pub length: usize,
     pub at: usize,
-    pub loops: [Loop; MOST_OPEN],
+    pub starts: [usize; MOST_OPEN],
+    pub dones: [u32; MOST_OPEN],
     pub depth: usize,
 }
 
@@ -30,7 +24,8 @@ pub fn begin(length: usize) -> Flow
     Flow {
         length,
         at: 0,
-        loops: [Loop { start: 0, done: 0 }; MOST_OPEN],
+        starts: [0; MOST_OPEN],
+        dones: [0; MOST_OPEN],
         depth: 0,
     }
 }
@@ -50,13 +45,10 @@ pub fn begin_loop(f: Flow, next: usize) -> Option<Flow>
     if MOST_OPEN <= f.depth {
         return None;
     }
-    let begun = Loop {
-        start: next,
-        done: 0,
-    };
     Some(Flow {
         at: next,
-        loops: put_loop(f.loops, f.depth, begun),
+        starts: put(f.starts, f.depth, next),
+        dones: put(f.dones, f.depth, 0),
         depth: f.depth + 1,
         ..f
     })
@@ -77,21 +69,15 @@ fn close(f: Flow, d: usize, n: u32, next: usize) -> Flow
     requires { d < 4 }
     ensures { result ≡ closed d n next f }
 {
-    let open = loop_at(f.loops, d);
+    let start = at_depth(f.starts, d);
     if n == 0 {
-        return Flow {
-            at: open.start,
-            ..f
-        };
+        return Flow { at: start, ..f };
     }
-    if open.done < n - 1 {
-        let again = Loop {
-            done: open.done + 1,
-            ..open
-        };
+    let done = at_depth(f.dones, d);
+    if done < n - 1 {
         return Flow {
-            at: open.start,
-            loops: put_loop(f.loops, d, again),
+            at: start,
+            dones: put(f.dones, d, done + 1),
             ..f
         };
     }
@@ -102,27 +88,27 @@ fn close(f: Flow, d: usize, n: u32, next: usize) -> Flow
     }
 }
 
-// The loop at a depth: each place is read by its own number, so that the record stays in registers.
-fn loop_at(loops: [Loop; MOST_OPEN], d: usize) -> Loop
+// What stands at a depth: each place is read by its own number, so that the record stays in registers.
+fn at_depth<T: Copy>(places: [T; MOST_OPEN], d: usize) -> T
     requires { d < 4 }
-    ensures { result ≡ get_or loops d no_loop }
+    ensures { (z : T) → result ≡ get_or places d z }
 {
     match d {
-        0 => loops[0],
-        1 => loops[1],
-        2 => loops[2],
-        _ => loops[3],
+        0 => places[0],
+        1 => places[1],
+        2 => places[2],
+        _ => places[3],
     }
 }
 
-// The loops with x at a depth: each place is written by its own number, so that the record stays in registers.
-fn put_loop(loops: [Loop; MOST_OPEN], d: usize, x: Loop) -> [Loop; MOST_OPEN]
-    ensures { result ≡ set loops d x }
+// The places with x at a depth: each is written by its own number, so that the record stays in registers.
+fn put<T: Copy>(places: [T; MOST_OPEN], d: usize, x: T) -> [T; MOST_OPEN]
+    ensures { result ≡ set places d x }
 {
     [
-        if d == 0 { x } else { loops[0] },
-        if d == 1 { x } else { loops[1] },
-        if d == 2 { x } else { loops[2] },
-        if d == 3 { x } else { loops[3] },
+        if d == 0 { x } else { places[0] },
+        if d == 1 { x } else { places[1] },
+        if d == 2 { x } else { places[2] },
+        if d == 3 { x } else { places[3] },
     ]
 }

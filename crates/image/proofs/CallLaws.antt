@@ -1,6 +1,6 @@
 -- Laws of the public calls: how each promise is met, and that no second answer meets it. Assumes nothing.
 use Rattle.std.specs.Prelude.{Ok}
-use Rattle.image.specs.Calls.{Checked}
+use Rattle.image.specs.Calls.{ImageChecked}
 use Rattle.image.specs.Calls.{Stored}
 use Prim.Native.Nat.{ℕ, ◌≤◌, ◌<◌}
 use mathlib.Core.Path.{◌≡◌, refl, sym, ◌∙◌}
@@ -27,10 +27,10 @@ means_by : (most : ℕ) (image : List ℕ) → checked_by most image ≡ Ok tt
 unfolding checked_by
 means_by most image =
     cases
-    (λ (r : Checked). r ≡ Ok tt → (length image ≡ image_bytes) × ((k : ℕ) → k < slots → slot_by most image k ≡ true))
+    (λ (r : ImageChecked). r ≡ Ok tt → (length image ≡ image_bytes) × ((k : ℕ) → k < slots → slot_by most image k ≡ true))
     (right_length image)
     (λ long. cases
-    (λ (r : Checked). r ≡ Ok tt → (length image ≡ image_bytes) × ((k : ℕ) → k < slots → slot_by most image k ≡ true))
+    (λ (r : ImageChecked). r ≡ Ok tt → (length image ≡ image_bytes) × ((k : ℕ) → k < slots → slot_by most image k ≡ true))
     (slots_by most image slots)
     (λ all q. (eqb-true (length image) image_bytes long, λ k l. slots-each most image k slots l all))
     (λ some q. let z : ◌≡◌ {A = ℕ} 0 1 = cc in absurd (omega arith)))

@@ -8,31 +8,31 @@ use Rattle.parts.specs.Parts.{most_bytes}
 use Rattle.image.specs.Image.{right_length, slots, body_bytes, slots_by, with_text, empty_image}
 
 -- what a check and a store answer: nothing more, or why not
-abbrev pub Checked : Type 0
-Checked = Result ⊤ BadImage
+abbrev pub ImageChecked : Type 0
+ImageChecked = Result ⊤ BadImage
 
 abbrev pub Stored : Type 0
 Stored = Result ⊤ NotStored
 
 -- "image not 4,160 bytes, then bad image", with operands of so many digits at most
-unfoldable pub checked_by : ℕ → List ℕ → Checked
+unfoldable pub checked_by : ℕ → List ℕ → ImageChecked
 checked_by most image = cond (right_length image) (cond (slots_by most image slots) (Ok tt) (Err BadImage.Bad)) (Err BadImage.WrongLength)
 
-abbrev pub checked_of : List ℕ → Checked
+abbrev pub checked_of : List ℕ → ImageChecked
 checked_of image = checked_by operand_most image
 
 -- 02, E9: the same for start alone, of programs stored earlier
-abbrev pub older_of : List ℕ → Checked
+abbrev pub older_of : List ℕ → ImageChecked
 older_of image = checked_by most_bytes image
 
 -- the number of each answer, for the firmware
-abbrev pub checked_number : Checked → ℕ
+abbrev pub checked_number : ImageChecked → ℕ
 checked_number (Ok u) = 0
 checked_number (Err BadImage.WrongLength) = 1
 checked_number (Err BadImage.Bad) = 2
 
 -- and its name: "image not 4,160 bytes, then bad image"
-abbrev pub checked_name : Checked → String
+abbrev pub checked_name : ImageChecked → String
 checked_name (Ok u) = "good"
 checked_name (Err BadImage.WrongLength) = "image not 4,160 bytes"
 checked_name (Err BadImage.Bad) = "bad image"

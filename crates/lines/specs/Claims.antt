@@ -13,7 +13,7 @@ use Rattle.commands.specs.Reading.{fault, read_at}
 use Rattle.lines.specs.declared.Body.{Body}
 use Rattle.lines.specs.declared.Taken.{Taken}
 use Rattle.lines.specs.Texts.{Placed, unplaced, goes_on_lem, reading_from, structured, storable, fault_places, stored_places, leftmost, text_good_by, text_good, older_good}
-use Rattle.lines.specs.Bodies.{body_of, text_end, line_of, taken_code, line_fault, line_code_lem}
+use Rattle.lines.specs.Bodies.{body_of, text_end, line_of, taken_code, line_checked, line_fault, line_code_lem}
 use Rattle.lines.specs.Lists.{HostList, run_text, written_of, all_in_range, slot_in_range, shaped, list_fault, list_code_lem, list, list_of, Spells}
 use Rattle.lines.specs.Loops.{Enclosed, enclosing, Checked, Lawful}
 use Rattle.lines.specs.Examples.{examples, leftmosts, each, olders, each_older, operands, each_operand}
@@ -94,6 +94,9 @@ pub record LineClaims : Type 0 where
   pub older-most : (most : ℕ) (t : List ℕ) → most_bytes ≤ most → text_good_by most t ≡ older_good t
   -- "(2)", "(3)": there is no other code
   pub codes : (b : List ℕ) → one_of (0 ∷ 2 ∷ 3 ∷ []) (line_code_lem b) ≡ true
+  -- the code 0 is the answer that nothing is wrong, and no fault that is told has it
+  pub checked_taken : (b : List ℕ) → line_code_lem b ≡ 0 → line_checked b ≡ Ok tt
+  pub checked_refused : (b : List ℕ) → (line_code_lem b ≡ 0 → ⊥) → line_checked b ≡ Err (line_fault b)
   -- "the first fault from the left": a text read from a place is its command there, then the text read from behind it
   pub from_the_left : (t : List ℕ) (at : ℕ) → reading_from t at ≡ goes_on_lem at (read_at t at) (λ n. reading_from t n)
   -- a command ends within its text: with its spelling (`CommandAt`) that leaves one next place

@@ -15,7 +15,7 @@ ghost use Rattle.listening.specs.Listen.{after_oem_address, after_sequence, afte
 ghost use Rattle.listening.specs.Listen.{standing, unit_after, ended_by, other_heard, not_sum, opens_at, hear_of, fresh_listener, listen_of};
 ghost use Rattle.listening.specs.Claims.{ListeningClaims};
 
-use answers::{HOST_ADDRESS, MOST_DATA};
+use answers::HOST_ADDRESS;
 use checksum::{ETX, STX};
 use frames::{CR, FIRST_SEQUENCE, LAST_SEQUENCE, SLASH, ZERO};
 
@@ -118,6 +118,10 @@ pub fn listen(from: Listener, bytes: &[u8]) -> Listener
     for b in bytes {
         let h = hear(l.ear, *b);
         l.ear = h.ear;
+        // the table is lent only where something was finished
+        if matches!(h.finish, Finish::Nothing) {
+            continue;
+        }
         note(&mut l.table, h.finish);
     }
     l
@@ -333,12 +337,19 @@ fn in_oem_status(s: u8, b: u8) -> Spot
     in_status(b, Spot::OemData(b, 0, s), Spot::OemBody(Finish::Nothing, s))
 }
 
+// How many bytes data may have and which, told here apart from the writer's: what ties the two is proved.
+const MOST_DATA: u16 = 256;
+
+const LEAST_DATA: u8 = 0x20;
+
+const GREATEST_DATA: u8 = 0x7E;
+
 // Whether b may stand behind n bytes of data: fewer than 256 are there, and it is 20 to 7E hex.
 #[tactic(auto, unfolding(crate::specs::Listen::may_follow))]
 fn may_follow(n: u16, b: u8) -> bool
     ensures { result ≡ may_follow n b }
 {
-    usize::from(n) < MOST_DATA && answers::printable(b)
+    n < MOST_DATA && LEAST_DATA <= b && b <= GREATEST_DATA
 }
 
 // Notes in a lent table of any length what was finished: the record of its unit changes, where the table has one, and no other.

@@ -10,7 +10,7 @@ use Rattle.ramp.specs.declared.Refused.TheVariants.{V, L, N}
 use Rattle.ramp.specs.declared.Figures.{Figures}
 use Rattle.ramp.specs.Ranges.{top_v, top_l, Within, Outside, NOutside, Accepted}
 use Rattle.ramp.specs.Peak.{double_unit, peak_of, IsPeak}
-use Rattle.ramp.specs.Ramp.{zero64, time_of, told_of, figures_of}
+use Rattle.ramp.specs.Ramp.{zero64, time_of, figures_told, figures_of}
 
 -- "peak is the greatest whole v ..", and no other number is; "v² / (12207·L) rounded down". No float stands here.
 pub record WholeFigures (v l : ℕ) (n : Option ℕ) (f : Figures) : Type 0 where
@@ -47,14 +47,14 @@ pub record AllZero (f : Figures) : Type 0 where
 -- "named refusal, all figures 0"
 pub record NamedRefusal (r : Result Figures Refused) : Type 0 where
   pub named : IsErr r
-  pub zero : AllZero (told_of r)
+  pub zero : AllZero (figures_told r)
 
 -- An acceleration of 0 once made a time that was not a number; every guard on it compared false, and it had set the steps.
 -- No figures that are taken hold such a time, nor a peak or distance made from it; a guard always says one or the other.
 pub record NoBadTime (v l : ℕ) (n : Option ℕ) (r : Result Figures Refused) : Type 0 where
   pub time : IfOk r (λ f. GoodTime f.floats.time)
   pub steps : IfOk r (λ f. WholeFigures v l n f)
-  pub guard : (limit : Float) → is_nan limit ≡ false → T (lt limit (told_of r).floats.time || le (told_of r).floats.time limit)
+  pub guard : (limit : Float) → is_nan limit ≡ false → T (lt limit (figures_told r).floats.time || le (figures_told r).floats.time limit)
 
 -- "V, then L, then N outside the ranges of this paper": when each refusal is given
 abbrev pub When : Refused → ℕ → ℕ → Option ℕ → Type 0

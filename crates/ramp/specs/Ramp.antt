@@ -55,8 +55,8 @@ unfoldable pub no_figures : Figures
 no_figures = record { peak = 0; distance = 0; floats = record { speed = zero64; acceleration = zero64; time = zero64 } }
 
 -- the figures that are told: "named refusal, all figures 0"
-abbrev pub told_of : Result Figures Refused → Figures
-told_of r = result_unwrap_or r no_figures
+abbrev pub figures_told : Result Figures Refused → Figures
+figures_told r = result_unwrap_or r no_figures
 
 -- the number of each refusal for C: 1 V, 2 L, 3 N outside its range
 abbrev pub refused_number : Refused → ℕ

@@ -3,7 +3,7 @@
 ghost use Rattle.std.specs.Prelude.{◌≡◌, ◌+◌, ◌*◌, ◌/◌, ◌^◌, min, ◌≤◌, ◌<◌};
 ghost use Rattle.ramp.specs.Ranges.{top_v, top_l, top_n, outside, Within};
 ghost use Rattle.ramp.specs.Peak.{double_unit, greatest};
-ghost use Rattle.ramp.specs.Ramp.{verdict_number, peak_figures, told_of, figures_of};
+ghost use Rattle.ramp.specs.Ramp.{verdict_number, peak_figures, figures_told, figures_of};
 ghost use Rattle.ramp.specs.Claims.{RampClaims};
 
 // Which of V, L and N is outside its range.
@@ -52,13 +52,16 @@ pub fn ramp(v: u32, l: u32, n: Option<u32>) -> Result<Figures, Refused>
     if outside(1, TOP_L, l) {
         return Err(Refused::L);
     }
-    let Some(n) = n else {
-        return Ok(taken(v, l));
+    let peak = match n {
+        None => v,
+        Some(n) => {
+            if outside(1, TOP_N, n) {
+                return Err(Refused::N);
+            }
+            finite_peak(v, l, n)
+        }
     };
-    if outside(1, TOP_N, n) {
-        return Err(Refused::N);
-    }
-    Ok(taken(finite_peak(v, l, n), l))
+    Ok(taken(peak, l))
 }
 
 // Whether x is outside low to top: two comparisons, since the ends of a range that is asked would stand in memory, where the chip's check of places loses them.
@@ -82,7 +85,7 @@ pub fn code(figures: Result<Figures, Refused>) -> u32
 
 // The figures that are told: of a refusal all 0.
 pub fn told(figures: Result<Figures, Refused>) -> Figures
-    ensures { result ≡ told_of figures }
+    ensures { result ≡ figures_told figures }
 {
     figures.unwrap_or(Figures {
         peak: 0,

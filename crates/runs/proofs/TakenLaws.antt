@@ -57,7 +57,8 @@ plain-goes-on u a next sample ms steps image h m r =
       text_same = ap (λ (f : Flow). take f.length u.text) e;
       place = ap (λ (f : Flow). f.at) e;
       depth_same = ap (λ (f : Flow). f.depth) e;
-      loops_same = ap (λ (f : Flow). f.loops) e;
+      starts-same = ap (λ (f : Flow). f.starts) e;
+      rounds_same = ap (λ (f : Flow). f.dones) e;
     })
 
 -- the flow stays in its text, and xs has been taken
@@ -84,8 +85,8 @@ pub command-goes : {t : List ℕ} {whole : Course} {xs : List Step} (image : Lis
 unfolding command_taken
 command-goes {t} image c LoopBegin n h e i l =
     let f = c.flow in
-    let room : length (opens f.depth f.loops) < most_open = rw e at (lawful h.checked h.place) in
-    rw (begin_goes h e) (record { ok = opened_ok h e; took = opened-taken f h (omega (arith, opens-length f.depth f.loops)) l; stays = refl })
+    let room : length (opens f.depth f.starts) < most_open = rw e at (lawful h.checked h.place) in
+    rw (begin_goes h e) (record { ok = opened_ok h e; took = opened-taken f h (omega (arith, opens-length f.depth f.starts)) l; stays = refl })
 command-goes {t} image c (LoopEnd m) n h e i l =
     rw (end_goes h e) (record { ok = closed_ok h e; took = closed-taken c.flow h m n l; stays = refl })
 command-goes image c (Skip k) n h e i l = skip-goes c k n h e l

@@ -31,7 +31,8 @@ pub record GoesOn (u : Drive) (next : ℕ) (v : Drive) : Type 0 where
   pub text_same : text_of v ≡ text_of u
   pub place : v.core.flow.at ≡ next
   pub depth_same : v.core.flow.depth ≡ u.core.flow.depth
-  pub loops_same : v.core.flow.loops ≡ u.core.flow.loops
+  pub starts-same : v.core.flow.starts ≡ u.core.flow.starts
+  pub rounds_same : v.core.flow.dones ≡ u.core.flow.dones
 
 -- a text that is run from its beginning, unless the run has stopped
 pub record Entered (t : List ℕ) (v : Drive) : Type 0 where

@@ -120,7 +120,7 @@ fits_kept = record {
       (record { text = f.text; core = record { motor = reported-fits sample steps c.motor (omega arith) f.core.motor; settings = f.core.settings; endless = f.core.endless } }) d;
 }
 
-pub start_fits : (number : ℕ) (image body text : List ℕ) → (start_of number image body text).answer ≡ StartAnswer.Started
+pub start_fits : (number : ℕ) (image body text : List ℕ) → (start_of number image body text).answer ≡ StartAnswer.start_ok
     → Fits (start_of number image body text).unit
 start_fits number image body text e = rw (started-unit number image body text e) ((calls_keep fits_kept).starts number image body)
 

@@ -46,7 +46,7 @@ feed_is u bytes image buffer h = rw (le-ltb (length buffer) packet_bytes h.buffe
 
 taken-nothing : (r : Received) (body : List ℕ) (u : Drive) (image buffer : List ℕ) (n : ℕ) → r.frame ≡ Frame.Nothing → r.consumed ≡ n
     → feed_taken r body (frame_obeyed r.frame body u.core) u image buffer
-    ≡ record { answer = FeedAnswer.Taken; unit = moved_to r.receiver u; consumed = n; answered = 0; image = image; buffer = buffer }
+    ≡ record { answer = FeedAnswer.feed_ok; unit = moved_to r.receiver u; consumed = n; answered = 0; image = image; buffer = buffer }
 taken-nothing r body u image buffer n f e = rw (f, e, put-nothing buffer)
 
 pub skips : (u : Drive) (a q : ℕ) (body : List ℕ) (c : ℕ) (image buffer : List ℕ) → Heeded image buffer → elsewhere u.receiver.place ≡ true

@@ -34,7 +34,7 @@ pub record SkippedBy (u : Drive) (bytes image buffer : List ℕ) : Type 0 where
   pub receiver : Receiver
   pub outside : receiver.place ≡ Place.Outside
   pub feeds : feed_of u bytes image buffer
-      ≡ record { answer = FeedAnswer.Taken; unit = moved_to receiver u; consumed = length bytes; answered = 0; image = image; buffer = buffer }
+      ≡ record { answer = FeedAnswer.feed_ok; unit = moved_to receiver u; consumed = length bytes; answered = 0; image = image; buffer = buffer }
 
 -- "makes the feed skip the frame", and the same call goes on behind it: xs, with n bytes of such a frame before ys, does what ys does. In the
 -- receiver's body other bytes may be left, and they are never told (`Alike`)

@@ -12,7 +12,7 @@ use Rattle.commands.specs.Table.{top}
 use Rattle.motor.specs.declared.Motor.{Motor}
 use Rattle.motor.specs.declared.stops.Stop.{Stop}
 use Rattle.motor.specs.declared.stops.Stop.TheVariants.{PositionUnknown, RangeLeft}
-use Rattle.motor.specs.Motion.{code_of, Moved, room, absolute, if_known}
+use Rattle.motor.specs.Motion.{stop_code, Moved, room, absolute, if_known}
 use Rattle.motor.proofs.StopLaws.{finite-stops, finite-leaves}
 use Rattle.turns.specs.declared.Core.{Core}
 use Rattle.turns.specs.Turns.{ended, moved}
@@ -39,19 +39,19 @@ pub clash : {A : Type 0} {b : Bool} → b ≡ true → b ≡ false → A
 clash h q = absurd cc
 
 -- a motor that stops ends the run with its code, and one that goes on does not
-pub moved_ends : (P : ℕ → Type 0) (e : Core) (r : Moved) → e.running ≡ true → ((k : Stop) → r ≡ Err k → P (code_of k))
+pub moved_ends : (P : ℕ → Type 0) (e : Core) (r : Moved) → e.running ≡ true → ((k : Stop) → r ≡ Err k → P (stop_code k))
     → (moved r e).running ≡ false → P (moved r e).code
 unfolding ended
 moved_ends P e (Ok m) h f q = clash h q
 moved_ends P e (Err k) h f q = f k refl
 
-pub moved-stops : (e : Core) (r : Moved) {k : Stop} → r ≡ Err k → ((moved r e).running ≡ false) × ((moved r e).code ≡ code_of k)
+pub moved-stops : (e : Core) (r : Moved) {k : Stop} → r ≡ Err k → ((moved r e).running ≡ false) × ((moved r e).code ≡ stop_code k)
 unfolding ended
 moved-stops e r s = rw s (refl, refl)
 
 -- `A`, `P` or `D`, with the position known and unknown
 pub known_stop : (e : Core) (m : Motor) (r : Moved) {k : Stop} → m.known ≡ true → r ≡ Err k
-    → ((moved (if_known m r) e).running ≡ false) × ((moved (if_known m r) e).code ≡ code_of k)
+    → ((moved (if_known m r) e).running ≡ false) × ((moved (if_known m r) e).code ≡ stop_code k)
 known_stop e m r h s = moved-stops e (if_known m r) (rw h s)
 
 pub unknown_stop : (e : Core) (m : Motor) (r : Moved) → m.known ≡ false

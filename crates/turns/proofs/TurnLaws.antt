@@ -23,7 +23,7 @@ use Rattle.motor.specs.declared.Motor.{Motor}
 use Rattle.motor.specs.declared.stops.Stop.{Stop}
 use Rattle.motor.specs.declared.stops.Stop.TheVariants.{PositionUnknown, RangeLeft}
 use Rattle.motor.specs.Inputs.{level_there}
-use Rattle.motor.specs.Motion.{code_of, Moved, reported, is_free, action_of, relative, absolute, if_known, served}
+use Rattle.motor.specs.Motion.{stop_code, Moved, reported, is_free, action_of, relative, absolute, if_known, served}
 use Rattle.motor.proofs.StopLaws as stops
 use Rattle.motor.proofs.StopLaws.{ServeStops, relative-stops, relative-leaves, known-stops, serve_stops, stops_serve}
 use Rattle.turns.specs.declared.Core.{Core}
@@ -78,11 +78,11 @@ module _ (sample ms steps : ℕ) (t image : List ℕ) (c : Core) where
   -- `A`, `P` or `D`: the position is unknown, or the range would be left
   move-ends : (a : Act) (next : ℕ) (s : Moved) → Reads t c (At (Plain a) next) → Moving a
       → ((k : Stop) → s ≡ Err k → (k ≡ RangeLeft) × Leaving then.position a)
-      → (k : Stop) → if_known then s ≡ Err k → Ends (code_of k)
+      → (k : Stop) → if_known then s ≡ Err k → Ends (stop_code k)
   unfolding reported
   move-ends a next s r m f k e = go (known-stops then s e)
     where
-      go : ((c.motor.known ≡ false) × (k ≡ PositionUnknown)) ⊎ ((c.motor.known ≡ true) × (s ≡ Err k)) → Ends (code_of k)
+      go : ((c.motor.known ≡ false) × (k ≡ PositionUnknown)) ⊎ ((c.motor.known ≡ true) × (s ≡ Err k)) → Ends (stop_code k)
       go (inl u) = rw u.1 (cause (unknown a next r m u.0))
       go (inr u) = let l = f k u.1 in rw l.0 (cause (leaves_range a next r u.0 l.1))
 
@@ -138,7 +138,7 @@ module _ (sample ms steps : ℕ) (t image : List ℕ) (c : Core) where
   read_ends End r h = λ z. cause (text-ends r)
 
   served-ends : (k : Stop) (w : Wait) → c.motor.wait ≡ w
-      → ServeStops c.motor.sample c.settings.flag steps then w k → Ends (code_of k)
+      → ServeStops c.motor.sample c.settings.flag steps then w k → Ends (stop_code k)
   unfolding reported
   served-ends k w e (stops.range_ends up left f z) = cause (range_ends up left e f z)
   served-ends k w e (stops.not-clear left n f l) = cause (not-clear left n e f l)

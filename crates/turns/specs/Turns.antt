@@ -17,7 +17,7 @@ use Rattle.motor.specs.declared.Wait.{Wait}
 use Rattle.motor.specs.declared.Last.{Last}
 use Rattle.motor.specs.declared.Motor.{Motor}
 use Rattle.motor.specs.Inputs.{level_there}
-use Rattle.motor.specs.Motion.{code_of, Moved, waiting, placed_at, reported, is_free, answered, relative, absolute, if_known, homed, delayed, held, served, stopped, fresh_motor}
+use Rattle.motor.specs.Motion.{stop_code, Moved, waiting, placed_at, reported, is_free, answered, relative, absolute, if_known, homed, delayed, held, served, stopped, fresh_motor}
 use Rattle.turns.specs.declared.setting.Settings.{Settings}
 use Rattle.turns.specs.declared.Core.{Core}
 use Rattle.turns.specs.declared.Stepped.{Stepped}
@@ -64,7 +64,7 @@ astray c = ended c.code c
 
 abbrev pub moved : Moved → Core → Core
 moved (Ok m) c = with_motor m c
-moved (Err why) c = ended (code_of why) c
+moved (Err why) c = ended (stop_code why) c
 
 -- 02, E3: "a new `P0` or `D0` starts it from `V`", where it is taken and does not stop the run
 abbrev pub speed_after : ℕ → Moved → Core → ℕ

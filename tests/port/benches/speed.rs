@@ -40,24 +40,24 @@ const CHECKS: [f64; 2] = [1.5, 1.5];
 /// Feed and turn: at most so many times the model in time and in instructions, and the most instructions of ours that the gate
 /// lets pass, so that a lost shape is seen at once. A number of ten digits is written without a division, which the model makes.
 const PACE: [(&str, [f64; 2], f64); 18] = [
-    ("feed, short frames, 1 byte a call", [1.4, 1.1], 206.0),
-    ("feed, short frames, 16 bytes a call", [1.1, 1.05], 89.0),
-    ("feed, short frames, 256 bytes a call", [1.1, 1.05], 87.0),
+    ("feed, short frames, 1 byte a call", [1.4, 1.1], 203.0),
+    ("feed, short frames, 16 bytes a call", [1.1, 1.05], 86.0),
+    ("feed, short frames, 256 bytes a call", [1.1, 1.05], 85.0),
     ("feed, 200-byte bodies, 1 byte a call", [1.4, 1.1], 204.0),
-    ("feed, 200-byte bodies, 16 bytes a call", [1.1, 1.05], 76.0),
+    ("feed, 200-byte bodies, 16 bytes a call", [1.1, 1.05], 75.0),
     ("feed, 200-byte bodies, 256 bytes a call", [1.1, 1.05], 67.0),
-    ("feed, short OEM frames, 1 byte a call", [1.4, 1.1], 213.0),
-    ("feed, short OEM frames, 16 bytes a call", [1.1, 1.05], 115.0),
-    ("feed, short OEM frames, 256 bytes a call", [1.1, 1.05], 112.0),
+    ("feed, short OEM frames, 1 byte a call", [1.4, 1.1], 209.0),
+    ("feed, short OEM frames, 16 bytes a call", [1.1, 1.05], 113.0),
+    ("feed, short OEM frames, 256 bytes a call", [1.1, 1.05], 110.0),
     ("feed, 200-byte OEM bodies, 1 byte a call", [1.4, 1.1], 226.0),
     ("feed, 200-byte OEM bodies, 16 bytes a call", [1.1, 1.05], 126.0),
     ("feed, 200-byte OEM bodies, 256 bytes a call", [1.1, 1.05], 119.0),
-    ("feed, ten-digit answers, 1 byte a call", [4.0, 1.75], 353.0),
-    ("feed, ten-digit answers, a frame a call", [4.0, 2.1], 253.0),
-    ("turn, idle", [1.3, 1.15], 47.0),
-    ("turn, in a move", [1.3, 1.15], 97.0),
-    ("turn, a command taken", [2.4, 2.3], 236.0),
-    ("turn, a jump", [1.5, 1.5], 2374.0),
+    ("feed, ten-digit answers, 1 byte a call", [4.0, 1.75], 349.0),
+    ("feed, ten-digit answers, a frame a call", [4.0, 2.1], 248.0),
+    ("turn, idle", [1.3, 1.15], 46.0),
+    ("turn, in a move", [1.3, 1.15], 96.0),
+    ("turn, a command taken", [2.4, 2.3], 235.0),
+    ("turn, a jump", [1.5, 1.5], 2373.0),
 ];
 
 const ROUNDS: usize = 15;

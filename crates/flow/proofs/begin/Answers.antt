@@ -1,4 +1,4 @@
--- `flow::begin` meets its contract: four places without a loop are four. Assumes nothing.
+-- `flow::begin` meets its contract: four zeros are four zeros. Assumes nothing.
 use mathlib.Core.Path.{refl}
 use Rattle.flow.specs.Flow.{begun}
 use Rattle.flow.proofs.begin.Goals as goal

@@ -9,4 +9,4 @@ returns-then-f-ge-MOST_OPEN c = simp (le-ltb _ _ c.if-f-ge-MOST_OPEN.true)
 
 pub returns : goal.returns
 unfolding loop_begun
-returns c = simp (lt-ltb _ _ c.if-f-ge-MOST_OPEN.false, c.put_loop.ensures)
+returns c = simp (lt-ltb _ _ c.if-f-ge-MOST_OPEN.false, c.put.ensures, c.put-2.ensures)

@@ -17,12 +17,18 @@ has-run n done z h = rw (ne_eqb n 0 z, le-ltb (done + 1) n (omega arith))
 
 pub returns-then-n-eq0 : goal.returns-then-n-eq0
 unfolding again
-returns-then-n-eq0 c = simp (eq-eqb _ _ c.if-n-eq0.true, c.loop_at-open.ensures)
+returns-then-n-eq0 c = simp (eq-eqb _ _ c.if-n-eq0.true, c.at_depth-start.ensures 0)
 
-pub returns-then-open-n : goal.returns-then-open-n
-returns-then-open-n c =
+pub returns-then-done-n : goal.returns-then-done-n
+returns-then-done-n c =
     let left = c.if-n-eq0.false in
-    simp (c.put_loop.ensures, ← c.loop_at-open.ensures, ne_eqb _ _ left, runs-again _ _ left c.if-open-n.true)
+    simp (
+      c.at_depth-start.ensures 0,
+      c.put.ensures,
+      ← c.at_depth-done.ensures 0,
+      ne_eqb _ _ left,
+      runs-again _ _ left c.if-done-n.true,
+    )
 
 pub returns : goal.returns
-returns c = simp (← c.loop_at-open.ensures, has-run _ _ c.if-n-eq0.false c.if-open-n.false)
+returns c = simp (← c.at_depth-done.ensures 0, has-run _ _ c.if-n-eq0.false c.if-done-n.false)

@@ -5,7 +5,7 @@ use Rattle.commands.proofs.ReadingLaws.{read_step}
 use Rattle.lines.proofs.PlaceLaws.{places-none, stored-none, none-nil, nil-none}
 use Rattle.lines.proofs.TextLaws.{reading_law}
 use Rattle.lines.proofs.LoopLaws.{lawful, at_most-four, enclosed_by}
-use Rattle.lines.proofs.CodeLaws.{codes}
+use Rattle.lines.proofs.CodeLaws.{codes, checked_taken, checked_refused}
 use Rattle.lines.proofs.ListLaws.{list_law, list_back, written-spells, spelled-taken}
 use Rattle.lines.proofs.TakenLaws.{stored, text-checked, held, one-or-more}
 use Rattle.lines.proofs.FaultLaws.{leftmost_is, place-there, place_none, place-most, over-long}
@@ -28,6 +28,8 @@ returns c = record {
   good-now = good-now;
   older-most = older-most;
   codes = codes;
+  checked_taken = checked_taken;
+  checked_refused = checked_refused;
   from_the_left = reading_law;
   no_place = λ cs. (λ e. sym (places-none [] cs) ∙ none-nil _ e, λ e. nil-none _ (places-none [] cs ∙ e));
   no_place-stored = λ run long cs. (λ e. sym (stored-none run long cs) ∙ none-nil _ e, λ e. nil-none _ (stored-none run long cs ∙ e));

@@ -1,7 +1,9 @@
 -- `drive::answer_completed` meets its contract: only a frame for this unit alone is answered. Assumes nothing.
-use Rattle.std.proofs.Common.{inl, inr}
 use Rattle.drive.proofs.FeedLaws.{answers-none}
 use Rattle.drive.proofs.answering.answer_completed.Goals as goal
 
 pub returns-in-Nothing : goal.returns-in-Nothing
-returns-in-Nothing c = elim c.in-Nothing.is [ inl e ↦ answers-none (rw e) | inr e ↦ answers-none (rw e) ]
+returns-in-Nothing c = answers-none (rw c.in-Nothing.is)
+
+pub returns-in-Group : goal.returns-in-Group
+returns-in-Group c = answers-none (rw c.in-Group.is)
