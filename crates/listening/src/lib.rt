@@ -89,6 +89,13 @@ const LAST_UNIT: u8 = 0x40;
 // The longest line has a unit of three digits, counts of ten, two digits of a status, and three spaces.
 const LINE_BYTES: usize = 28;
 
+// How many bytes data may have, and which: of `answers` only the test of a status is shared.
+const MOST_DATA: u16 = 256;
+
+const LEAST_DATA: u8 = 0x20;
+
+const GREATEST_DATA: u8 = 0x7E;
+
 const SPACE: u8 = b' ';
 
 const DASH: u8 = b'-';
@@ -336,13 +343,6 @@ fn in_oem_status(s: u8, b: u8) -> Spot
     }
     in_status(b, Spot::OemData(b, 0, s), Spot::OemBody(Finish::Nothing, s))
 }
-
-// How many bytes data may have and which, told here apart from the writer's: what ties the two is proved.
-const MOST_DATA: u16 = 256;
-
-const LEAST_DATA: u8 = 0x20;
-
-const GREATEST_DATA: u8 = 0x7E;
 
 // Whether b may stand behind n bytes of data: fewer than 256 are there, and it is 20 to 7E hex.
 #[tactic(auto, unfolding(crate::specs::Listen::may_follow))]

@@ -52,6 +52,7 @@ pub fn ramp(v: u32, l: u32, n: Option<u32>) -> Result<Figures, Refused>
     if outside(1, TOP_L, l) {
         return Err(Refused::L);
     }
+    // Either way to one call of `taken`: with two the archives for chips ask the firmware for one helper of memory more.
     let peak = match n {
         None => v,
         Some(n) => {
